@@ -1,0 +1,3 @@
+pub mod Parts
+pub mod Phases
+pub mod Received

@@ -1,0 +1,11 @@
+pub mod Asks
+pub mod Cells
+pub mod Controllers
+pub mod Host
+pub mod Messages
+pub mod Opening
+pub mod Permits
+pub mod Placed
+pub mod Refusals
+pub mod States
+pub mod Stays
