@@ -1,0 +1,12 @@
+pub mod Bits
+pub mod Cells
+pub mod Coin
+pub mod Computed
+pub mod Finding
+pub mod Invariant
+pub mod Keeping
+pub mod Lawful
+pub mod Majorities
+pub mod Obligation
+pub mod Readings
+pub mod Safety

@@ -1,0 +1,4 @@
+pub mod Outlines
+pub mod Pages
+pub mod Rules
+pub mod Statements
