@@ -1,0 +1,3 @@
+pub mod Performs
+pub mod Promise
+pub mod Runs
