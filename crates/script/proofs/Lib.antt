@@ -1,0 +1,3 @@
+mod Cuts
+mod Feeding
+mod Fields
