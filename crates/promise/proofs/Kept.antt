@@ -1,22 +1,18 @@
 -- Every run from a fresh park keeps the promise.
 use mathlib.Core.Path.{_≡_, refl, sym, ap, subst, _∙_}
-use mathlib.Core.Bool.{Bool, true, false, cond, _&&_}
-use mathlib.Core.List.{List, [], _∷_}
+use mathlib.Core.Bool.{Bool, true, false, cond}
+use mathlib.Core.List.{[], _∷_}
 use mathlib.Core.Logic.{_⊎_, inl, inr}
 use Prim.Native.Nat.{ℕ, _+_, _-_, _≤_}
-use native.Mathlib.Decide.{decLe}
-use native.Mathlib.Omega.{arith}
-use lib.ListN.{getD, replicate, getD-replicate}
 use Rattle.std.specs.declared.option.Option.{Option}
-use Rattle.std.specs.declared.option.Option.the-variants.{Some, None}
+use Rattle.std.specs.declared.option.Option.the-variants.{Some}
 use Rattle.channel.specs.declared.channel.Channel as channel
 use Rattle.channel.specs.Meaning.{Gives, Same-bag}
 use Rattle.coins.specs.declared.Coins as coins
-use Rattle.laws.proofs.Computed.{words-read, verdict-after}
 use Rattle.laws.proofs.Invariant.{Asks, Fit}
-use Rattle.laws.proofs.Keeping.{Inv, act-keeps, answer-in, caller-spoke, coin-opposed, fresh-keeps, idle-silent, one-yes, said-grows, somebody-wins}
+use Rattle.laws.proofs.Keeping.{Inv, act-keeps, answer-in, coin-opposed, fresh-keeps, one-yes, said-grows, somebody-wins}
 use Rattle.laws.specs.Outlines as outlines
-use Rattle.laws.specs.Outlines.{Stage, Tables, Outline, idle, asking, done}
+use Rattle.laws.specs.Outlines.{Stage, idle, asking, done}
 use Rattle.laws.specs.Rules.{other}
 use Rattle.terms.specs.declared.answer.Answer.{Answer}
 use Rattle.terms.specs.declared.answer.Answer.the-variants.{Yes, No}
@@ -27,26 +23,24 @@ use Rattle.terms.specs.declared.word.Side.{Side}
 use Rattle.terms.specs.declared.word.Side.the-variants.{Zero, One}
 use Rattle.terms.specs.Places.{between}
 use Rattle.terms.specs.declared.word.Word.{Word}
-use Rattle.park.specs.Controllers.{has-called, nobody, uncalled}
+use Rattle.park.specs.Controllers.{has-called, uncalled}
 use Rattle.park.specs.declared.controller.Stage.{Stage as Real}
 use Rattle.park.specs.declared.controller.Stage.the-variants as stages
 use Rattle.park.specs.States.{State, of}
-use Rattle.promise.specs.Promise.{Called, Crashed, Holds, Opened-phase, Opened-round, Said-group, Promise, Every-run-keeps-the-promise, opposite}
+use Rattle.promise.specs.Promise.{Called, Holds, Opened-phase, Opened-round, Said-group, Promise, Every-run-keeps-the-promise, opposite}
 use Rattle.promise.specs.Runs.{Event, History, Does, Run, start, then, Fresh}
-use Rattle.promise.proofs.Changes.{does-change}
-use Rattle.promise.proofs.Histories.{recorded-keeps, recorded-none}
-use Rattle.promise.proofs.Outline.{Sized, outline, said-page, stage-in, stage-of, tables}
+use Rattle.promise.proofs.ActsInOutline.{Heard-well, change-act}
+use Rattle.promise.proofs.Alive.{Alive, alive-fresh}
+use Rattle.promise.proofs.AliveEvents.{change-alive}
+use Rattle.promise.proofs.Changes.{Change, does-change}
+use Rattle.promise.proofs.NeverStuck.{never-stuck}
+use Rattle.promise.proofs.Outline.{Sized, small, outline, said-page, stage-in, stage-of, tables}
 use Rattle.promise.proofs.PermitCount.{Counted, given-at, at-most-one, counted-keeps}
-use Rattle.promise.proofs.Recorded.{Named, Recorded}
-use Rattle.promise.proofs.Seam.{Heard-well, does-act}
-use Rattle.promise.proofs.SeamCells.{between-tells}
-use Rattle.promise.proofs.SeamRecords.{done-is, stage-is}
-use Rattle.promise.proofs.SeamSaid.{Opened-by, said-opened, said-opened-by}
-use Rattle.promise.proofs.SeamSized.{fresh-outline, same-n, same-tables, sized-fresh, sized-keeps}
-use Rattle.promise.proofs.Stuck.{Alive, alive-fresh, alive-keeps, never-stuck}
-
-clash : _≡_ {A = ℕ} 0 1 → ⊥
-clash z = omega arith
+use Rattle.promise.proofs.RecordWrites.{done-is, stage-is}
+use Rattle.promise.proofs.Recorded.{Recorded, recorded-keeps, recorded-none}
+use Rattle.promise.proofs.RefusalsAndLimits.{Named, between-tells, clash}
+use Rattle.promise.proofs.SaidPages.{said-opened, said-opened-by}
+use Rattle.promise.proofs.Sizes.{Lasting, change-lasting, fresh-outline, fresh-record, same-tables, sized-fresh, sized-keeps}
 
 opposite-is : (g : Side) → other g ≡ opposite g
 opposite-is Zero = refl
@@ -123,30 +117,34 @@ module _ {C K : Type 0} (ch : channel.Ghosts C) (co : coins.Ghosts K)
       outlined = fresh-outline ch co s F
 
       new : (p : ℕ) → Named s p → of s p ≡ uncalled
-      new p n =
-        let few = sized-fresh ch co s F .at-most in
-        ap (λ (z : State C K). of z p) (F .is) ∙ getD-replicate 15 (p - 1) uncalled nobody (omega arith)
+      new p n = ap (λ (z : State C K). of z p) (F .is) ∙ fresh-record ch co p (n .0) (small s (sized-fresh ch co s F) p (n .1))
 
   known-more : (s t : State C K) (e : Event) (h : History) → Known h s → Does ch co s e t → Known (e ∷ h) t
   known-more s t e h k d = record {
-    sized = sized-keeps ch co gives s t e (k .sized) d;
-    alive = alive-keeps ch co gains gives s t e (k .alive) d;
-    lawful = subst (λ n. Inv (tables co t) n (outline ch t)) (sym (same-n ch co gives s t e d))
-      (subst (λ c. Inv c (s .n) (outline ch t)) (sym (same-tables ch co gives s t e d)) (act-keeps (tables co s) (s .n) (k .lawful) act));
-    recorded = recorded-keeps s t (k .sized .at-most) (k .sized .count) (same-n ch co gives s t e d) e h (k .recorded) (does-change ch co s t e d);
-    counted = counted-keeps ch co s t e h (k .counted) d;
+    sized = sized-keeps ch co s t e (k .sized) c;
+    alive = change-alive ch co gains s t e (k .sized) (k .alive) c;
+    lawful = subst (λ n. Inv (tables co t) n (outline ch t)) (sym (lasts .n))
+      (subst (λ c. Inv c (s .n) (outline ch t)) (sym (same-tables ch co s t e c)) (act-keeps (tables co s) (s .n) (k .lawful) act));
+    recorded = recorded-keeps ch co s t e (k .sized) h (k .recorded) (lasts .n) c;
+    counted = counted-keeps ch co s t e h (k .counted) (lasts .desk) d;
     said = λ p at w o. elim o [
-      | inl a ↦ said-opened ch co gives s t e (k .sized) d p at w a
+      | inl a ↦ said-opened ch co s t e (k .sized) c p at w a
       | inr a ↦ said-grows (tables co s) (s .n) (k .lawful) act p (at .selector) (at .round) (at .phase) w (k .said p at w a)
     ];
-    opened = λ p k′ r x w f. elim (said-opened-by ch co gives s t e (k .sized) d p k′ r x w f) [
+    opened = λ p k′ r x w f. elim (said-opened-by ch co s t e (k .sized) c p k′ r x w f) [
       | inl a ↦ inr (k .opened p k′ r x w a)
       | inr a ↦ inl a
     ];
   }
     where
+      c : Change ch co s e t
+      c = does-change ch co gives s t e d
+
+      lasts : Lasting ch co s t e
+      lasts = change-lasting ch co s t e c
+
       act : outlines.Act (tables co s) (s .n) (outline ch s) (outline ch t)
-      act = does-act ch co gains words-read verdict-after gives s t e (k .sized) (heard-well s (k .lawful)) d
+      act = change-act ch co gains s t e (k .sized) (heard-well s (k .lawful)) c
 
   known : {s t : State C K} {h : History} → Fresh ch co s → Run ch co s h t → Known h t
   known {s} F start = known-fresh s F
@@ -156,12 +154,12 @@ module _ {C K : Type 0} (ch : channel.Ghosts C) (co : coins.Ghosts K)
 
   module _ (h : History) (s : State C K) (k : Known h s) where
     holds-answer : (p : ℕ) (a : Answer) → Holds h p a → answer-in (outline ch s .stage p) ≡ Some a
-    holds-answer p a o = let r = k .recorded .holds p a o in answer-here s p a (r .0) (r .1)
+    holds-answer p a o = let r = k .recorded .holds p a .0 o in answer-here s p a (r .0) (r .1)
 
     answer-holds : (p : ℕ) (a : Answer) → answer-in (outline ch s .stage p) ≡ Some a → Named s p × (of s p .stage ≡ stages.Answered a) × Holds h p a
     answer-holds p a e =
       let r = done-is (s .n) (s .controllers) p a (answered _ a e) in
-      ((r .0, r .1), r .2, k .recorded .holder p a (r .0, r .1) (r .2))
+      ((r .0, r .1), r .2, k .recorded .holds p a .1 ((r .0, r .1), r .2))
 
     one : (p q : ℕ) → Holds h p Yes → Holds h q Yes → p ≡ q
     one p q a b = one-yes (tables co s) (s .n) (outline ch s) (k .lawful) p q (holds-answer p Yes a) (holds-answer q Yes b)
@@ -169,14 +167,14 @@ module _ {C K : Type 0} (ch : channel.Ghosts C) (co : coins.Ghosts K)
     all-answered : (p : ℕ) → Called h p → ((q : ℕ) → Called h q → Holds h q Yes ⊎ Holds h q No)
       → (q : ℕ) × Called h q × Holds h q Yes × ((r : ℕ) → Holds h r Yes → r ≡ q)
     all-answered p c all =
-      let n = k .recorded .called p c in
+      let n = k .recorded .called p .0 c in
       let w = somebody-wins (tables co s) (s .n) (outline ch s) (k .lawful) p
             (λ e. called-not-idle (of s p .stage) (of s p .heard) (n .1) (sym (stage-here s p (n .0)) ∙ e))
             (λ q d. let m = not-idle-named s q d in
               let c′ = not-idle-called (of s q .stage) (of s q .heard) (λ e. d (stage-here s q m ∙ e)) in
-              elim (all q (k .recorded .caller q m c′)) [ inl o ↦ inl (holds-answer q Yes o) | inr o ↦ inr (holds-answer q No o) ]) in
+              elim (all q (k .recorded .called q .1 (m, c′))) [ inl o ↦ inl (holds-answer q Yes o) | inr o ↦ inr (holds-answer q No o) ]) in
       let y = answer-holds (w .0) Yes (w .1) in
-      (w .0, k .recorded .caller (w .0) (y .0) (ap has-called (y .1)), y .2, λ r o. one r (w .0) o (y .2))
+      (w .0, k .recorded .called (w .0) .1 (y .0, ap has-called (y .1)), y .2, λ r o. one r (w .0) o (y .2))
 
     met-its-coin : (p k′ r : ℕ) → 2 ≤ r → Opened-round h p k′ (r + 2) → (q : ℕ) × Said-group h q k′ r 2 (opposite (co .common (s .coins) k′ r))
     met-its-coin p k′ r late o =
@@ -188,7 +186,7 @@ module _ {C K : Type 0} (ch : channel.Ghosts C) (co : coins.Ghosts K)
       at-most-one-yes = one;
       at-most-one-permit = at-most-one h (s .desk .stage) (k .counted);
       one-yes-when-all-answered = λ p c uncrashed all. all-answered p c all;
-      never-stuck = never-stuck ch co gives h s (k .alive) (k .recorded);
+      never-stuck = never-stuck ch co gives h s (k .sized) (k .alive) (k .recorded);
       long-selector-met-its-coin = met-its-coin;
     }
 

@@ -3,14 +3,13 @@ use mathlib.Core.Path.{_≡_}
 use mathlib.Core.Bool.{Bool, true, false, cond, _&&_}
 use mathlib.Core.List.{List}
 use Prim.Native.Nat.{ℕ, _-_, _*_, _≤_}
+use native.Mathlib.Omega.{arith}
 use lib.Dec.{leb}
 use lib.ListN.{length, getD}
 use Rattle.std.specs.declared.option.Option.{Option}
 use Rattle.std.specs.declared.option.Option.the-variants.{Some, None}
 use Rattle.channel.specs.declared.channel.Channel as channel
 use Rattle.coins.specs.declared.Coins as coins
-use Rattle.terms.specs.declared.rules.Verdict.{Verdict}
-use Rattle.terms.specs.declared.rules.Verdict.the-variants.{Pair, GoOn}
 use Rattle.terms.specs.declared.word.Cell.{Cell}
 use Rattle.terms.specs.declared.word.Cell.the-variants.{Empty, Holds}
 use Rattle.terms.specs.declared.word.Place.{Place}
@@ -25,7 +24,6 @@ use Rattle.park.specs.Controllers.{record-of}
 use Rattle.park.specs.Placed.{placed}
 use Rattle.park.specs.States.{State, of}
 use Rattle.laws.specs.Outlines.{Page, Stage, idle, asking, done, Outline, Tables}
-use Rattle.laws.specs.Rules.{Outcome, yes-yes, no-no, yes-no, on}
 
 abbrev pub place : ℕ → ℕ → ℕ → Place
 place k r x = record { selector = k; round = r; phase = x }
@@ -59,15 +57,6 @@ stage-in n list p = cond (between 1 n p) (stage-of (record-of list p .stage) (re
 -- the word that p of n controllers heard from q
 unfoldable pub word-from : ℕ → List Controller → ℕ → ℕ → Word
 word-from n list p q = cond (between 1 n p && leb 1 q) (getD (record-of list p .words) (q - 1) blank) blank
-
-abbrev pub outcome-of-pair : Bool → Bool → Outcome
-outcome-of-pair true true = yes-yes
-outcome-of-pair true false = yes-no
-outcome-of-pair false second = no-no
-
-abbrev pub outcome-of : Verdict → Outcome
-outcome-of (Pair result) = outcome-of-pair (result .0) (result .1)
-outcome-of (GoOn group) = on group
 
 -- a record whose caller asks within the limits, with a word for each of fifteen
 pub record Fit (c : Controller) : Type 0 where
@@ -103,3 +92,9 @@ module _ {C K : Type 0} where
     pub count : length (s .controllers) ≡ 15
     pub fit : (p : ℕ) → 1 ≤ p → p ≤ 15 → Fit (of s p)
     pub room : 1024 * s .n ≤ length (s .cells)
+
+  pub small : (s : State C K) → Sized s → (p : ℕ) → p ≤ s .n → p ≤ 15
+  small s z p u = let m = z .at-most in omega arith
+
+  pub listed : (s : State C K) → Sized s → (p : ℕ) → p ≤ s .n → p ≤ length (s .controllers)
+  listed s z p u = let m = z .at-most in let l = z .count in omega arith

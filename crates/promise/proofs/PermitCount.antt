@@ -1,18 +1,19 @@
 -- At most one permit is given: none while the desk has given none, and one from then on.
 use mathlib.Core.Path.{_≡_, refl, sym, ap, subst, _∙_}
-use mathlib.Core.Bool.{Bool, true, false, not, cond, _&&_}
-use mathlib.Core.List.{List, [], _∷_}
-use mathlib.Core.Logic.{_⊎_, inl, inr}
+use mathlib.Core.Bool.{Bool, true, false, not, cond}
+use mathlib.Core.List.{_∷_}
+use mathlib.Core.Logic.{inl, inr}
 use Prim.Native.Nat.{ℕ, _+_, _≤_}
 use native.Mathlib.Omega.{arith}
 use lib.Dec.{eqb}
 use Rattle.std.specs.declared.option.Option.{Option}
 use Rattle.std.specs.declared.option.Option.the-variants.{Some, None}
 use Rattle.std.specs.declared.result.Result.{Result}
-use Rattle.std.specs.declared.result.Result.the-variants.{Ok, Err}
+use Rattle.std.specs.declared.result.Result.the-variants.{Err}
+use Rattle.std.proofs.shelf.Tests.{and-parts, cond-both, not-false}
 use Rattle.channel.specs.declared.channel.Channel as channel
 use Rattle.coins.specs.declared.Coins as coins
-use Rattle.permit.specs.Acts.{Moves, at-stage, fits, same-stage}
+use Rattle.permit.specs.Acts.{Moves, same-stage}
 use Rattle.permit.specs.declared.acts.Returned.{Returned}
 use Rattle.permit.specs.declared.desk.Desk.{Desk}
 use Rattle.permit.specs.declared.desk.PermitStage.{PermitStage}
@@ -22,15 +23,14 @@ use Rattle.terms.specs.declared.answer.Answer.the-variants.{Yes, No, Undecided}
 use Rattle.terms.specs.declared.refusal.Refusal.{Refusal}
 use Rattle.terms.specs.declared.refusal.Refusal.the-variants as refusals
 use Rattle.park.specs.declared.collected.Collected.{Collected}
-use Rattle.park.specs.declared.collected.Collected.the-variants as collects
 use Rattle.park.specs.Controllers.{answer-in}
 use Rattle.park.specs.Permits.{Tells}
-use Rattle.park.specs.Refusals.{Unless, name-refusal, when}
+use Rattle.park.specs.Refusals.{name-refusal, when}
 use Rattle.park.specs.States.{State, of}
-use Rattle.promise.specs.declared.act.Act.the-variants.{Call, Step, Crash, Deliver}
 use Rattle.promise.specs.Promise.{permits-given, gives}
 use Rattle.promise.specs.Runs.{Event, performed, collected, loaded, dispatched, handed-back, History, Does}
-use Rattle.promise.proofs.Changes.{unless-cases, performed-desk}
+use Rattle.promise.proofs.Changes.{performs}
+use Rattle.promise.proofs.RefusalsAndLimits.{clash, unless-cases, when-none}
 
 -- how many permits a desk at this stage has given
 abbrev pub given-at : PermitStage → ℕ
@@ -45,27 +45,17 @@ moved : {P Q : Type 0} (b : Bool) (permit : P) (due : Q) (next : PermitStage) (d
 moved true permit due next desk after r d one was = ap (λ z. given-at (z .stage)) (d .1) ∙ one ∙ sym (was refl)
 moved false permit due next desk after r d one was = ap (λ z. given-at (z .stage)) (d .1)
 
-and-right : (a b : Bool) → (a && b) ≡ true → b ≡ true
-and-right true b e = e
-and-right false b e = grind (arith, e)
-
-was-held : (stage : PermitStage) → same-stage stage Held ≡ true → given-at stage ≡ 1
-was-held NotGiven e = let z : _≡_ {A = ℕ} 0 1 = cc in absurd (omega arith)
-was-held Held e = refl
-was-held Loaded e = refl
-was-held Dispatched e = refl
-was-held HandedBack e = refl
-
-was-loaded : (stage : PermitStage) → same-stage stage Loaded ≡ true → given-at stage ≡ 1
-was-loaded NotGiven e = let z : _≡_ {A = ℕ} 0 1 = cc in absurd (omega arith)
-was-loaded Held e = refl
-was-loaded Loaded e = refl
-was-loaded Dispatched e = refl
-was-loaded HandedBack e = refl
-
-when-none : (b : Bool) (e : Refusal) → when (not b) e ≡ None → b ≡ true
-when-none true e h = refl
-when-none false e h = let z : _≡_ {A = ℕ} 0 1 = cc in absurd (omega arith)
+-- a desk at the stage of some permit has given one
+was-given : (stage due : PermitStage) → given-at due ≡ 1 → same-stage stage due ≡ true → given-at stage ≡ 1
+was-given NotGiven NotGiven one e = one
+was-given NotGiven Held one e = clash (cc)
+was-given NotGiven Loaded one e = clash (cc)
+was-given NotGiven Dispatched one e = clash (cc)
+was-given NotGiven HandedBack one e = clash (cc)
+was-given Held due one e = refl
+was-given Loaded due one e = refl
+was-given Dispatched due one e = refl
+was-given HandedBack due one e = refl
 
 refused-gives : (p : ℕ) (r : Result Collected Refusal) (e : Refusal) → r ≡ Err e → gives (collected p r) ≡ 0
 refused-gives p r e f = ap (λ z. gives (collected p z)) f
@@ -80,27 +70,23 @@ module _ {C K : Type 0} where
     | inr h ↦
         let z = ap (λ (q : Result Collected Refusal). gives (collected p q)) (h .1 .0) in
         let y = ap (λ (u : State C K). given-at (u .desk .stage)) (h .1 .1) in
-        let x : given-at (s .desk .stage) ≡ 0 = ap (λ b. cond b 0 1) (when-none _ _ (h .0)) in
+        let x : given-at (s .desk .stage) ≡ 0 = ap (λ b. cond b 0 1) (not-false _ (when-none _ _ (h .0))) in
         omega arith
     ]
 
 module _ {C K : Type 0} (ch : channel.Ghosts C) (co : coins.Ghosts K) where
-  pub counted-keeps : (s t : State C K) (e : Event) (h : History) → Counted h s → Does ch co s e t → Counted (e ∷ h) t
-  counted-keeps s t (performed act r) h c d = let z = ap (λ (k : Desk). given-at (k .stage)) (performed-desk ch co s t act r d) in omega arith
-  counted-keeps s t (collected p r) h c d = elim (unless-cases (name-refusal s p) s _ r t d) [
+  pub counted-keeps : (s t : State C K) (e : Event) (h : History) → Counted h s → (performs e ≡ true → t .desk ≡ s .desk) → Does ch co s e t → Counted (e ∷ h) t
+  counted-keeps s t (performed act r) h c same d = let z = ap (λ (k : Desk). given-at (k .stage)) (same refl) in omega arith
+  counted-keeps s t (collected p r) h c same d = elim (unless-cases (name-refusal s p) s _ r t d) [
       inl f ↦ let z = refused-gives p r _ (f .1) in let y = ap (λ (u : State C K). given-at (u .desk .stage)) (f .2) in omega arith
     | inr f ↦ let z = told s t p r (answer-in (of s p .stage)) (f .1) in omega arith
     ]
-  counted-keeps s t (loaded permit r) h c d =
-    let z = moved _ permit _ Loaded (s .desk) (t .desk) r (d .0) refl (λ b. was-held (s .desk .stage) (and-right (eqb (s .desk .vehicle) (permit .vehicle)) _ b)) in omega arith
-  counted-keeps s t (dispatched permit r) h c d =
-    let z = moved _ permit _ Dispatched (s .desk) (t .desk) r (d .0) refl (λ b. was-loaded (s .desk .stage) (and-right (eqb (s .desk .vehicle) (permit .vehicle)) _ b)) in omega arith
-  counted-keeps s t (handed-back permit r) h c d =
-    let z = moved _ permit _ HandedBack (s .desk) (t .desk) r (d .0) refl (λ b. was-held (s .desk .stage) (and-right (eqb (s .desk .vehicle) (permit .vehicle)) _ b)) in omega arith
+  counted-keeps s t (loaded permit r) h c same d =
+    let z = moved _ permit _ Loaded (s .desk) (t .desk) r (d .0) refl (λ b. was-given (s .desk .stage) Held refl (and-parts (eqb (s .desk .vehicle) (permit .vehicle)) _ b .1)) in omega arith
+  counted-keeps s t (dispatched permit r) h c same d =
+    let z = moved _ permit _ Dispatched (s .desk) (t .desk) r (d .0) refl (λ b. was-given (s .desk .stage) Loaded refl (and-parts (eqb (s .desk .vehicle) (permit .vehicle)) _ b .1)) in omega arith
+  counted-keeps s t (handed-back permit r) h c same d =
+    let z = moved _ permit _ HandedBack (s .desk) (t .desk) r (d .0) refl (λ b. was-given (s .desk .stage) Held refl (and-parts (eqb (s .desk .vehicle) (permit .vehicle)) _ b .1)) in omega arith
 
 pub at-most-one : (h : History) (stage : PermitStage) → permits-given h ≡ given-at stage → permits-given h ≤ 1
-at-most-one h NotGiven e = omega arith
-at-most-one h Held e = omega arith
-at-most-one h Loaded e = omega arith
-at-most-one h Dispatched e = omega arith
-at-most-one h HandedBack e = omega arith
+at-most-one h stage e = subst (λ k. k ≤ 1) (sym e) (cond-both (same-stage stage NotGiven) 0 1 (λ k. k ≤ 1) (λ _. omega arith) (λ _. omega arith))

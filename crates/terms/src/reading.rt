@@ -65,32 +65,32 @@ fn smaller_of<T: PartialOrd<T> + Copy>(best: Option<T>, entry: Option<T>) -> Opt
     }
 }
 
-pub fn read_groups(groups: &[Option<Side>]) -> Option<Side>
+pub(crate) fn read_groups(groups: &[Option<Side>]) -> Option<Side>
     ensures { λ r. ⌜ r ≡ reading-of same-side (now (groups .entry)) ⌝ }
 {
     reading(groups)
 }
 
-pub fn read_names(names: &[Option<u8>]) -> Option<u8>
+pub(crate) fn read_names(names: &[Option<u8>]) -> Option<u8>
     ensures { λ r. ⌜ r ≡ reading-of eqb (now (names .entry)) ⌝ }
 {
     reading(names)
 }
 
 // Whether every name is this one, and none is blank.
-pub fn all_named(name: u8, names: &[Option<u8>]) -> bool
+pub(crate) fn all_named(name: u8, names: &[Option<u8>]) -> bool
     ensures { λ r. ⌜ r ≡ every (alike eqb (Some name)) (now (names .entry)) ⌝ }
 {
     all_alike(Some(name), names)
 }
 
-pub fn smallest_group(groups: &[Option<Side>]) -> Option<Side>
+pub(crate) fn smallest_group(groups: &[Option<Side>]) -> Option<Side>
     ensures { λ r. ⌜ r ≡ smallest-of below-side None (now (groups .entry)) ⌝ }
 {
     smallest(groups)
 }
 
-pub fn smallest_name(names: &[Option<u8>]) -> Option<u8>
+pub(crate) fn smallest_name(names: &[Option<u8>]) -> Option<u8>
     ensures { λ r. ⌜ r ≡ smallest-of ltb None (now (names .entry)) ⌝ }
 {
     smallest(names)

@@ -1,0 +1,3 @@
+pub mod Opened
+pub mod Rounds
+pub mod Worked
