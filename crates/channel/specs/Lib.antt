@@ -1,3 +1,4 @@
+pub mod BagExamples
 pub mod BagOrder
 pub mod Counts
 pub mod LineOrder

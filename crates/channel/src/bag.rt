@@ -3,6 +3,7 @@ ghost use mathlib.Core.Path.{_≡_};
 ghost use mathlib.Core.List.{[]};
 ghost use Prim.Native.Nat.{_-_, _<_, _≤_};
 ghost use lib.ListN.{length, take, set};
+ghost use Rattle.channel.specs.BagExamples.{Bags-hold};
 ghost use Rattle.channel.specs.BagOrder.{waiting, places-of, Joins, position, mark-of, Moves-last, Gives-at-pick};
 ghost use Rattle.channel.specs.Memory.{places-in, Kept};
 ghost use Rattle.channel.specs.Positions.{Stands-at, last-or};
@@ -21,6 +22,7 @@ impl Bag {
         ensures empty { λ r. ⌜ waiting r ≡ [] ⌝ }
         ensures places { λ r. ⌜ places-of r ≡ places-in memory ⌝ }
         ensures memory { λ r. ⌜ r .memory ≡ memory ⌝ }
+        ensures examples { λ _. ⌜ Bags-hold ⌝ }
     {
         Bag { memory, count: 0 }
     }

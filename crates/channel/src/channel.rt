@@ -61,8 +61,7 @@ pub trait Channel {
 }
 
 // States that a bag is how many of each message it holds, and nothing else.
-pub fn bags_are_counts() -> u8
+pub fn bags_are_counts()
     ensures { λ _. ⌜ Bags-are-counts ⌝ }
 {
-    0
 }

@@ -3,6 +3,7 @@ ghost use mathlib.Core.Path.{_≡_};
 ghost use mathlib.Core.Bool.{true};
 ghost use Prim.Native.Nat.{ℕ, _≤_, _<_};
 ghost use lib.ListN.{length};
+ghost use Rattle.std.specs.Options.{Cases};
 ghost use Rattle.terms.specs.Places.{well-formed};
 ghost use Rattle.park.specs.Messages.{Accepts, Delivers, Receives};
 ghost use Rattle.park.specs.States.{view};
@@ -12,6 +13,7 @@ use super::park::Park;
 use channel::channel::Channel;
 use coins::Coins;
 use terms::message::Kind;
+use terms::message::Mark;
 use terms::message::Message;
 use terms::refusal::Refusal;
 
@@ -20,7 +22,7 @@ impl<C: Channel, K: Coins> Park<C, K> {
     pub fn deliver(&mut self, pick: u32) -> Result<u8, Refusal>
         ensures { λ r. ⌜ Delivers C·Channel (view (now (self .entry))) pick r (view (now (self .exit))) ⌝ }
     {
-        let Some((m, _)) = self.channel.fetch(pick) else {
+        let Some((m, _)) = fetch_one(&mut self.channel, pick) else {
             return Err(Refusal::Nothing);
         };
         if !m.is_well_formed(self.head.n) {
@@ -76,4 +78,12 @@ impl<C: Channel, K: Coins> Park<C, K> {
         let echo = Message { kind: Kind::Echo, sender: m.receiver, receiver: m.sender, place: m.place, word: kept };
         let _ = self.channel.send(echo);
     }
+}
+
+// One fetch with this pick. Where it gives none the channel is as it was, and where it gives a message a place is free afterwards.
+fn fetch_one<C: Channel>(channel: &mut C, pick: u32) -> Option<(Message, Mark)>
+    ensures fetched { λ r. ⌜ C·Channel .fetches (now (channel .entry)) pick r (now (channel .exit)) ⌝ }
+    ensures left { λ r. ⌜ Cases r (now (channel .exit) ≡ now (channel .entry)) (λ _. length (C·Channel .bag (now (channel .exit))) < C·Channel .places (now (channel .exit))) ⌝ }
+{
+    channel.fetch(pick)
 }

@@ -1,6 +1,7 @@
 // The part of a park that keeps its vehicle's number and the stage of its permit.
 ghost use mathlib.Core.Path.{_≡_};
 ghost use Rattle.permit.specs.Acts.{new-desk};
+ghost use Rattle.permit.specs.Examples.{Acts-hold};
 ghost use Rattle.permit.specs.Runs.{Every-run-spends-once};
 
 #[derive(Clone, Copy, PartialEq, Eq)]
@@ -22,6 +23,7 @@ impl Desk {
     pub fn new(vehicle: u32) -> Desk
         ensures fresh { λ r. ⌜ r ≡ new-desk vehicle ⌝ }
         ensures law { λ r. ⌜ Every-run-spends-once r ⌝ }
+        ensures examples { λ _. ⌜ Acts-hold ⌝ }
     {
         Desk::with_no_permit_given(vehicle)
     }

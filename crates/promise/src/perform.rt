@@ -4,7 +4,7 @@ ghost use Rattle.permit.specs.Acts.{Loads, Dispatches, HandsBack};
 ghost use Rattle.park.specs.Permits.{Collects, At-desk};
 ghost use Rattle.park.specs.States.{view};
 ghost use Rattle.promise.specs.Performs.{Performs, advanced, crashed, delivered};
-ghost use Rattle.promise.specs.Promise.{Keeps-the-promise};
+ghost use Rattle.promise.specs.Promise.{Every-run-keeps-the-promise, Keeps-the-promise};
 ghost use Rattle.promise.specs.Runs.{performed, collected, loaded, dispatched, handed-back};
 use super::act::Act;
 use super::act::Outcome;
@@ -22,6 +22,7 @@ use terms::refusal::Refusal;
 pub fn perform<C: Channel, K: Coins>(park: &mut Park<C, K>, act: Act) -> Result<Outcome, Refusal>
     ensures does { λ r. ⌜ Performs C·Channel K·Coins (view (now (park .entry))) act r (view (now (park .exit))) ⌝ }
     ensures promise { λ r. ⌜ Keeps-the-promise C·Channel K·Coins (view (now (park .entry))) (performed act r) (view (now (park .exit))) ⌝ }
+    ensures every_run { λ _. ⌜ Every-run-keeps-the-promise C·Channel K·Coins ⌝ }
 {
     act_on(park, act)
 }

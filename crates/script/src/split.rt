@@ -33,7 +33,8 @@ pub struct Splitter {
 
 impl Splitter {
     pub fn new() -> Splitter
-        ensures { λ r. ⌜ Holds r [] ⌝ }
+        ensures fed { λ r. ⌜ Holds r [] ⌝ }
+        ensures shows { λ r. ⌜ Shows r [] ⌝ }
     {
         Splitter {
             bytes: [0; LONGEST],

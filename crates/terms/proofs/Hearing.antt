@@ -2,12 +2,15 @@
 use mathlib.Core.Path.{_≡_, refl, sym, ap, _∙_}
 use mathlib.Core.List.{List, [], _∷_, _++_}
 use mathlib.Core.Bool.{true, false}
-use Prim.Native.Nat.{ℕ, suc, _+_, _/_, _%_, _^_, _<_}
+use Prim.Native.Nat.{ℕ, suc, _+_, _-_, _/_, _%_, _^_, _<_}
 use native.Mathlib.Numerals.{add-one}
+use native.Mathlib.Omega.{arith}
 use borrow.Author.Tests.{eq-eqb, ne-eqb}
 use lib.Dec.{eqb}
-use lib.ListN.{length, getD, set, take}
-use Rattle.std.proofs.shelf.Lists.{take-more-set}
+use lib.ListN.{length, getD, set, take, drop, replicate}
+use Rattle.std.proofs.shelf.Lists.{take-more-set, drop-set-lt, drop-drop, drop-replicate}
+use Rattle.std.specs.declared.option.Option.{Option}
+use Rattle.std.specs.declared.option.Option.the-variants.{None}
 use Rattle.terms.specs.declared.word.Word.{Word}
 use Rattle.terms.specs.Heard.{blank, heard-entries}
 
@@ -21,3 +24,9 @@ module _ {A : Type 0} (entry : Word → A) (heard : ℕ) (words : List Word) (fo
   heard-same t =
     let b : eqb (heard / 2 ^ i % 2) 1 ≡ false = ne-eqb (heard / 2 ^ i % 2) 1 t in
     rw add-one (rw b e)
+
+-- one entry more, and behind it only blanks still
+pub blanks-behind : {A : Type 0} (found : List (Option A)) (n : ℕ) (x : Option A) → drop n found ≡ replicate (15 - n) None → drop (n + 1) (set found n x) ≡ replicate (15 - (n + 1)) None
+blanks-behind found n x e =
+    let fewer : 15 - n - 1 ≡ 15 - (n + 1) = omega arith in
+    drop-set-lt (n + 1) found n x (omega arith) ∙ sym (drop-drop 1 n found) ∙ ap (drop 1) e ∙ drop-replicate 1 (15 - n) None ∙ ap (λ k. replicate k None) fewer

@@ -1,10 +1,11 @@
 // The majority, the heard set as a 16-bit number with bit p - 1 for controller p, and the words heard from it.
 ghost use mathlib.Core.Path.{_≡_};
-ghost use Prim.Native.Nat.{min, _≤_};
+ghost use Prim.Native.Nat.{min, _-_, _≤_};
 ghost use lib.Dec.{leb};
 ghost use lib.Count.{ones};
-ghost use lib.ListN.{take};
+ghost use lib.ListN.{take, drop, replicate};
 ghost use Rattle.terms.specs.Heard.{majority-of, heard-from, alone, with-heard, heard-groups, heard-names};
+ghost use Rattle.std.specs.declared.option.Option.the-variants.{None};
 use super::word::Word;
 use super::words_heard::WordsHeard;
 
@@ -47,6 +48,8 @@ pub fn is_majority(set: u16, majority: u8) -> bool
 pub fn collect_heard(n: u8, set: u16, words: &[Word; 15]) -> WordsHeard
     ensures groups { λ r. ⌜ take (r .count) (r .groups) ≡ heard-groups (min n 15) set (now (words .entry)) ⌝ }
     ensures names { λ r. ⌜ take (r .count) (r .names) ≡ heard-names (min n 15) set (now (words .entry)) ⌝ }
+    ensures no_further_groups { λ r. ⌜ drop (r .count) (r .groups) ≡ replicate (15 - r .count) None ⌝ }
+    ensures no_further_names { λ r. ⌜ drop (r .count) (r .names) ≡ replicate (15 - r .count) None ⌝ }
 {
     let mut groups = [None; 15];
     let mut names = [None; 15];

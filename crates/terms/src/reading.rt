@@ -22,7 +22,7 @@ pub fn reading<T: PartialEq<T> + Copy>(entries: &[Option<T>]) -> Option<T>
 }
 
 // Whether every entry is like this one.
-pub fn all_alike<T: PartialEq<T> + Copy>(first: Option<T>, rest: &[Option<T>]) -> bool
+pub(crate) fn all_alike<T: PartialEq<T> + Copy>(first: Option<T>, rest: &[Option<T>]) -> bool
     ensures { λ r. ⌜ ((same : T → T → Bool) → Answers (T·PartialEq .equals) same → r ≡ every (alike same first) (now (rest .entry))) ⌝ }
 {
     for entry in rest {
@@ -45,7 +45,7 @@ fn is_alike<T: PartialEq<T> + Copy>(a: Option<T>, b: Option<T>) -> bool
 }
 
 // The smallest entry that is not blank.
-pub fn smallest<T: PartialOrd<T> + Copy>(entries: &[Option<T>]) -> Option<T>
+pub(crate) fn smallest<T: PartialOrd<T> + Copy>(entries: &[Option<T>]) -> Option<T>
     ensures { λ r. ⌜ ((below : T → T → Bool) → Answers (λ a b. Tested (T·PartialOrd .compares a b) isLt) below → r ≡ smallest-of below None (now (entries .entry))) ⌝ }
 {
     let mut best = None;

@@ -16,4 +16,4 @@ returns c =
     let group-and-blank : cases.Holds cases.a-group-and-a-blank-go-on-with-the-group = (λ caller. refl, (refl, tt)) in
     let all-blank : cases.Holds cases.all-blank-keeps-the-own-group-in-round-1-and-takes-the-coin-later = (λ caller. refl, (λ caller. refl, tt)) in
     let first-draw : cases.Holds cases.first-draw-of-seed-0 = (first-draw-of-seed-0, tt) in
-    (majorities, (last-index, (readings, (another's, (own, (own-and-blank, (one-group, (group-and-blank, (all-blank, (first-draw, tt))))))))))
+    record { rows = refl; hold = (majorities, (last-index, (readings, (another's, (own, (own-and-blank, (one-group, (group-and-blank, (all-blank, (first-draw, tt)))))))))) }
