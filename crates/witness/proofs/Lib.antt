@@ -1,3 +1,4 @@
 pub mod Opened
+pub mod Replayed
 pub mod Rounds
 pub mod Worked

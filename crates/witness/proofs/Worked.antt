@@ -93,7 +93,7 @@ answers list u answer i =
 
 -- ---- the acts
 
-unless-none : {R S : Type 0} (o : Option Refusal) (s : S) (U : Result R Refusal → S → Type 0) (r : Result R Refusal) (t : S) → o ≡ None → U r t → Unless o s U r t
+pub unless-none : {R S : Type 0} (o : Option Refusal) (s : S) (U : Result R Refusal → S → Type 0) (r : Result R Refusal) (t : S) → o ≡ None → U r t → Unless o s U r t
 unless-none o s U r t e u = subst (λ o. Unless o s U r t) (sym e) u
 
 none-needed : (x : ℕ) → ltb x 0 ≡ false
