@@ -1,4 +1,4 @@
--- Further worked examples: what the marked cases leave open of the same definitions, of the draws and of well-formed messages.
+-- Further worked examples: what the marked cases leave open of the same definitions, of the draws, of well-formed messages and of the numbers of refusals.
 use mathlib.Core.Path.{_≡_}
 use mathlib.Core.Bool.{Bool, true, false}
 use mathlib.Core.List.{List, [], _∷_}
@@ -9,10 +9,13 @@ use Rattle.std.specs.shelf.Lists.{All}
 use Rattle.coins.specs.Draws.{group-draw, coin-draw, listed-draw}
 use Rattle.terms.specs.declared.answer.Answer.the-variants.{Yes, No, Undecided}
 use Rattle.terms.specs.declared.message.Kind.the-variants.{Phase}
+use Rattle.terms.specs.declared.refusal.Refusal.{Refusal}
+use Rattle.terms.specs.declared.refusal.Refusal.the-variants as refusals
 use Rattle.terms.specs.declared.rules.Next.the-variants as next
 use Rattle.terms.specs.declared.rules.Verdict.the-variants.{Pair, GoOn}
 use Rattle.terms.specs.declared.word.Side.{Side}
 use Rattle.terms.specs.declared.word.Side.the-variants.{Zero, One}
+use Rattle.terms.specs.Numbers.{number-of}
 use Rattle.terms.specs.Places.{well-formed}
 use Rattle.cases.specs.Cases as cases
 
@@ -26,6 +29,8 @@ pub data Example : Type 0 where
   listed-is : (bytes : List ℕ) (draw : ℕ) (side : Side) → Example
   -- a PHASE from sender to receiver at a place, with a name: whether a park of n controllers can take it
   well-formed-is : (n sender receiver selector round phase : ℕ) (name : Option ℕ) (well : Bool) → Example
+  -- a refusal's number
+  number-is : (refusal : Refusal) (number : ℕ) → Example
 
 abbrev pub Holds : Example → Type 0
 Holds (of-case c) = cases.Holds-alone c
@@ -34,6 +39,7 @@ Holds (coin-draw-is selector round draw) = coin-draw selector round ≡ draw
 Holds (listed-is bytes draw side) = listed-draw bytes draw ≡ side
 Holds (well-formed-is n sender receiver selector round phase name well) =
   well-formed n (record { kind = Phase; sender = sender; receiver = receiver; place = record { selector = selector; round = round; phase = phase }; word = record { group = None; name = name } }) ≡ well
+Holds (number-is refusal number) = number-of refusal ≡ number
 
 -- the phase counts by ones, the round by twos, the selector by 32s
 abbrev pub indices : List Example
@@ -89,8 +95,14 @@ messages =
   ∷ well-formed-is 3 1 2 1 1 1 (Some 4) false
   ∷ []
 
+abbrev pub numbers : List Example
+numbers =
+  number-is refusals.Count 1 ∷ number-is refusals.Memory 2 ∷ number-is refusals.Places 3 ∷ number-is refusals.Name 4 ∷ number-is refusals.Down 5
+  ∷ number-is refusals.Called 6 ∷ number-is refusals.NotReady 7 ∷ number-is refusals.NoPlace 8 ∷ number-is refusals.Nothing 9 ∷ number-is refusals.Leftover 10
+  ∷ number-is refusals.Message 11 ∷ number-is refusals.NoAnswer 12 ∷ number-is refusals.Taken 13 ∷ number-is refusals.Permit 14 ∷ number-is refusals.Line 15 ∷ []
+
 abbrev pub table : List (List Example)
-table = indices ∷ draws ∷ listed ∷ readings ∷ smallest ∷ limits ∷ messages ∷ []
+table = indices ∷ draws ∷ listed ∷ readings ∷ smallest ∷ limits ∷ messages ∷ numbers ∷ []
 
 abbrev pub Row-holds : List Example → Type 0
 Row-holds row = All Holds row

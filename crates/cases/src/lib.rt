@@ -18,5 +18,5 @@ pub fn further_examples_hold() -> u8
     ensures rows { λ r. ⌜ r ≡ length further ⌝ }
     ensures hold { λ _. ⌜ All Row-holds further ⌝ }
 {
-    7
+    8
 }

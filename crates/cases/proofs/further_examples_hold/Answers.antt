@@ -12,4 +12,5 @@ returns c =
     let smallest : further.Row-holds further.smallest = (λ own coin round groups. refl, (λ own coin round groups. refl, (λ caller. refl, (λ caller. refl, tt)))) in
     let limits : further.Row-holds further.limits = (refl, (refl, (refl, (refl, (refl, (refl, tt)))))) in
     let messages : further.Row-holds further.messages = (refl, (refl, (refl, (refl, (refl, (refl, (refl, (refl, (refl, (refl, (refl, (refl, (refl, (refl, tt)))))))))))))) in
-    record { rows = refl; hold = (indices, (draws, (listed, (readings, (smallest, (limits, (messages, tt))))))) }
+    let numbers : further.Row-holds further.numbers = (refl, (refl, (refl, (refl, (refl, (refl, (refl, (refl, (refl, (refl, (refl, (refl, (refl, (refl, (refl, tt))))))))))))))) in
+    record { rows = refl; hold = (indices, (draws, (listed, (readings, (smallest, (limits, (messages, (numbers, tt)))))))) }
