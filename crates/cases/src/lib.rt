@@ -1,4 +1,6 @@
 // The marked cases: a table of worked examples of the rules, and the statement that every row holds.
+#![tactic(auto)]
+
 ghost use Rattle.std.specs.Prelude.{◌≡◌, length};
 ghost use Rattle.std.specs.List.{AllByRecursion as All};
 ghost use Rattle.cases.specs.Cases.{Holds, table};

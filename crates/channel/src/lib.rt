@@ -1,4 +1,6 @@
 // Channels: what the park sends and fetches through, and two channels behind that interface.
+#![tactic(auto)]
+
 pub mod bag;
 pub mod channel;
 pub mod line;

@@ -1,5 +1,7 @@
 // The coins: two tables that never change, a group for each controller and selector, and a common coin for each
 // selector and round.
+#![tactic(auto)]
+
 ghost use Rattle.std.specs.Prelude.{◌≡◌, ℕ};
 ghost use Rattle.terms.specs.declared.word.Side.{Side};
 

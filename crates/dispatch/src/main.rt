@@ -1,4 +1,6 @@
 // Reads a script on standard input and writes what each of its records did on standard output.
+#![tactic(auto)]
+
 use session::run::run;
 use std::io;
 use std::io::BufWriter;

@@ -1,4 +1,5 @@
 // Makes the host calls that no script can make, and writes one line for each with its result.
+#![tactic(auto)]
 
 mod acting;
 mod carrying;

@@ -1,4 +1,6 @@
 // The laws of the controllers' algorithm: each function's contract is one law, over all lawful pages.
+#![tactic(auto)]
+
 ghost use Rattle.laws.specs.Statements.{AtMostOneYes, CoinOpposed, SomebodyWins};
 
 // No two controllers have the answer yes.

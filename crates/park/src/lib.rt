@@ -1,4 +1,6 @@
 // The park: one vehicle, its controllers, their cells, a channel and coins, with all acts on them.
+#![tactic(auto)]
+
 mod broadcast;
 pub mod call;
 mod cells;

@@ -1,4 +1,6 @@
 // Runs each script that its arguments name and writes their outputs one after another: many examples in one program.
+#![tactic(auto)]
+
 use session::run::run;
 use std::env;
 use std::fs::File;

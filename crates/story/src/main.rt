@@ -1,4 +1,6 @@
 // Tells a run of three stations in plain words: one crashes, one gets the boat, and one is turned away.
+#![tactic(auto)]
+
 mod acts;
 mod crossing;
 mod tale;

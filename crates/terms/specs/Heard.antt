@@ -1,5 +1,5 @@
 -- The majority, the heard set as a number, and the words heard from it.
-use Rattle.std.specs.Prelude.{ℕ, zero, suc, ◌+◌, ◌-◌, ◌/◌, ◌%◌, ◌^◌, Bool, true, false, cond, List, [], ◌∷◌, ◌++◌, None, Option, ◌==◌, bit_or, nat_lt, slice_index_or}
+use Rattle.std.specs.Prelude.{ℕ, zero, suc, ◌+◌, ◌-◌, ◌/◌, ◌%◌, ◌^◌, Bool, cond, List, [], ◌∷◌, ◌++◌, None, Option, ◌==◌, bit_or, nat_lt, slice_index_or}
 use Rattle.terms.specs.declared.word.Side.{Side}
 use Rattle.terms.specs.declared.word.Word.{Word}
 

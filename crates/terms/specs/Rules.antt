@@ -1,5 +1,5 @@
 -- What a controller does after each phase, from the groups and names that it heard.
-use Rattle.std.specs.Prelude.{ℕ, Bool, true, false, cond, ltb, List, [], ◌∷◌, Some, None, Option, ◌==◌, nat_eq, nat_lt}
+use Rattle.std.specs.Prelude.{ℕ, Bool, true, false, cond, ltb, List, Some, None, Option, ◌==◌, nat_eq, nat_lt}
 use Rattle.terms.specs.declared.answer.Answer.TheVariants.{Yes, No, Undecided}
 use Rattle.terms.specs.declared.rules.Next.{Next}
 use Rattle.terms.specs.declared.rules.Next.TheVariants as next

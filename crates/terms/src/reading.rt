@@ -1,6 +1,6 @@
 // The reading rule and the smallest entry, for groups, names and further kinds.
 ghost use Rattle.std.specs.Prelude.{◌≡◌, Bool, Some, None, nat_eq, nat_lt};
-ghost use Rattle.std.specs.Ordering.{is_lt, Tested};
+ghost use Rattle.std.specs.Ordering.{partial_lt};
 ghost use Rattle.terms.specs.Readings.{Answers, alike, every, reading_of, smaller, smallest_of, same_side, below_side};
 
 use super::word::Side;
@@ -45,7 +45,7 @@ fn is_alike<T: PartialEq + Copy>(a: Option<T>, b: Option<T>) -> bool
 
 // The smallest entry that is not blank.
 pub(crate) fn smallest<T: PartialOrd + Copy>(entries: &[Option<T>]) -> Option<T>
-    ensures { (below : T → T → Bool) → Answers (λ a b. Tested (λ r'. r' ≡ T.PartialOrd.partial_cmp a b) is_lt) below → result ≡ smallest_of below None entries.now }
+    ensures { (below : T → T → Bool) → Answers (λ x' y' r'. r' ≡ partial_lt T.PartialOrd.partial_cmp x' y') below → result ≡ smallest_of below None entries.now }
 {
     let mut best = None;
     for entry in entries {
@@ -55,7 +55,7 @@ pub(crate) fn smallest<T: PartialOrd + Copy>(entries: &[Option<T>]) -> Option<T>
 }
 
 fn smaller_of<T: PartialOrd + Copy>(best: Option<T>, entry: Option<T>) -> Option<T>
-    ensures { (below : T → T → Bool) → Answers (λ a b. Tested (λ r'. r' ≡ T.PartialOrd.partial_cmp a b) is_lt) below → result ≡ smaller below best entry }
+    ensures { (below : T → T → Bool) → Answers (λ x' y' r'. r' ≡ partial_lt T.PartialOrd.partial_cmp x' y') below → result ≡ smaller below best entry }
 {
     match (best, entry) {
         (Some(a), Some(b)) => if b < a { Some(b) } else { Some(a) },

@@ -1,4 +1,6 @@
 // What the promise over runs supposes can be met. Each contract is one statement of this: that there is such a run, or how further rounds come about.
+#![tactic(auto)]
+
 ghost use Rattle.witness.specs.Piles.{ALongSelectorExists};
 ghost use Rattle.witness.specs.Witnesses.{AFreshParkExists, ARunWithAYesAndAPermitExists, AllAnsweredCanBeMet, NeverStuckCanBeMet, RoundsCanGoOn};
 

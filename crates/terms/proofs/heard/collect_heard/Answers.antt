@@ -1,4 +1,4 @@
-use Rattle.std.proofs.Common.{◌≡◌, length, get_or, sym, ◌∙◌, arith, length-set}
+use Rattle.std.proofs.Common.{get_or, arith, length-set}
 use Rattle.terms.specs.Heard.{blank}
 use Rattle.terms.proofs.Hearing.{heard_more, heard_same, blanks_behind}
 use Rattle.terms.proofs.heard.collect_heard.Goals as goal

@@ -1,4 +1,4 @@
-use Rattle.std.proofs.Common.{◌≡◌, ℕ, ◌-◌, ◌/◌, ◌%◌, ◌^◌, ◌<◌, ◌≤◌, Bool, true, false, eqb, sym, refl, ap, ◌∙◌, arith, pow_mono, le-ltb}
+use Rattle.std.proofs.Common.{◌≡◌, ◌-◌, ◌/◌, ◌%◌, ◌^◌, ◌≤◌, eqb, sym, ap, ◌∙◌, arith, pow_mono, le-ltb}
 use native.Mathlib.Nat.{div-eq_of_lt}
 use Rattle.terms.proofs.heard.has_heard.Goals as goal
 

@@ -1,4 +1,4 @@
-use Rattle.std.proofs.Common.{List, drop, sym, ap, ◌∙◌, arith}
+use Rattle.std.proofs.Common.{sym, ap, ◌∙◌}
 use Rattle.std.proofs.lemmas.List.{drop_all}
 use Rattle.terms.specs.Readings.{smallest_of}
 use Rattle.terms.proofs.Every.{smallest_more}

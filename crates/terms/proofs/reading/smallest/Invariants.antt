@@ -1,9 +1,9 @@
 use Rattle.std.proofs.Common.{◌≡◌, Bool, drop, None}
-use Rattle.std.specs.Ordering.{is_lt, Tested}
+use Rattle.std.specs.Ordering.{partial_lt}
 use Rattle.terms.specs.Readings.{Answers, smallest_of}
 use Rattle.terms.proofs.reading.smallest.Given as goal
 
 abbrev pub invariant-loop-entry : goal.invariant-loop-entry
 invariant-loop-entry g l =
-    (below : _ → _ → Bool) → Answers (λ a b. Tested (λ r'. r' ≡ g.T.PartialOrd.partial_cmp a b) is_lt) below
+    (below : _ → _ → Bool) → Answers (λ x' y' r'. r' ≡ partial_lt g.T.PartialOrd.partial_cmp x' y') below
     → smallest_of below l.best (drop l.entry-index l.entries) ≡ smallest_of below None l.entries
