@@ -4,11 +4,11 @@ use Rattle.std.proofs.lemmas.Bool.{cases_lt}
 use Rattle.script.proofs.Fields.{digits_below, digit_is}
 use Rattle.script.proofs.record.read_digits.Goals as goal
 
-pub overflow-mul-value : goal.overflow-mul-value
-overflow-mul-value c = let few : length (take c.loop-value.count c.args.bytes.now) ≤ 20 = simp length-take (omega arith) in omega (arith, digits_below _ c.loop-value.invariant.2 few)
+pub overflow_mul-value : goal.overflow_mul-value
+overflow_mul-value c = let few : length (take c.loop-value.count c.args.bytes.now) ≤ 20 = simp length-take (omega arith) in omega (arith, digits_below _ c.loop-value.invariant.2 few)
 
-pub overflow-add-value : goal.overflow-add-value
-overflow-add-value c = let few : length (take c.loop-value.count c.args.bytes.now) ≤ 20 = simp length-take (omega arith) in omega (arith, digits_below _ c.loop-value.invariant.2 few, c.type_inv.bytes c.loop-value.count)
+pub overflow_add-value : goal.overflow_add-value
+overflow_add-value c = let few : length (take c.loop-value.count c.args.bytes.now) ≤ 20 = simp length-take (omega arith) in omega (arith, digits_below _ c.loop-value.invariant.2 few, c.type_inv.bytes c.loop-value.count)
 
 pub loop-value-preserved : goal.loop-value-preserved
 loop-value-preserved c =

@@ -3,8 +3,8 @@ use Rattle.std.proofs.lemmas.List.{take_all}
 use Rattle.std.proofs.lemmas.Bool.{leb-true, leb-false, lt-leb}
 use Rattle.script.proofs.split.Splitter.record.Goals as goal
 
-pub slice-bounds-result-end : goal.slice-bounds-result-end
-slice-bounds-result-end c = omega (arith, leb-true _ _ (sym c.if-fits.ensures))
+pub slice_bounds-result-end : goal.slice_bounds-result-end
+slice_bounds-result-end c = omega (arith, leb-true _ _ (sym c.if-fits.ensures))
 
 pub returns-then-fits : goal.returns-then-fits
 returns-then-fits c text shows =
