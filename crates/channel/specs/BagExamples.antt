@@ -1,5 +1,5 @@
 -- Examples of a bag: which position a pick means, when it says copied, and what is left once a message is gone.
-use Rattle.std.specs.Prelude.{◌≡◌, ℕ, ◌<◌, ◌≤◌, List, [], ◌∷◌, length}
+use Rattle.std.specs.Prelude.{◌≡◌, ◌<◌, ◌≤◌, [], ◌∷◌, length}
 use Rattle.terms.specs.declared.message.Message.{Message}
 use Rattle.terms.specs.declared.message.Mark.TheVariants.{Gone, Copied}
 use Rattle.channel.specs.declared.bag.state.Bag.{Bag}

@@ -1,12 +1,12 @@
 -- In every run the stage of the desk tells how often the permit was given, loaded, dispatched and handed back.
-use Rattle.std.proofs.Common.{◌≡◌, ℕ, ◌+◌, ◌≤◌, Bool, true, false, cond, ◌&&◌, List, [], ◌∷◌, is_some, is_ok, Option, Result, refl, ap, ◌∙◌, arith, lit≤}
+use Rattle.std.proofs.Common.{◌≡◌, ℕ, ◌+◌, ◌≤◌, Bool, true, false, cond, ◌&&◌, List, ◌∷◌, is_some, is_ok, Option, Result, refl, ap, ◌∙◌, arith, lit≤}
 use Rattle.permit.specs.declared.desk.Desk.{Desk}
 use Rattle.permit.specs.declared.held.HeldPermit.{HeldPermit}
 use Rattle.permit.specs.declared.desk.PermitStage.{PermitStage}
 use Rattle.permit.specs.declared.desk.PermitStage.TheVariants.{NotGiven, Held, Loaded, Dispatched, HandedBack}
 use Rattle.permit.specs.declared.acts.Returned.{Returned}
 use Rattle.permit.specs.Acts.{new_desk, same_stage, Given, Moves}
-use Rattle.permit.specs.Runs.{Act, give, load, dispatch, hand_back, Does, Run, start, then, times, SpentOnce, EveryRunSpendsOnce}
+use Rattle.permit.specs.Runs.{Act, give, load, dispatch, hand_back, Does, Run, start, then, times, EveryRunSpendsOnce}
 
 -- 1 for the stage itself
 abbrev here : PermitStage → PermitStage → ℕ

@@ -1,10 +1,10 @@
 -- What a splitter holds after one more byte.
-use Rattle.std.proofs.Common.{◌≡◌, ℕ, ◌+◌, ◌-◌, ◌<◌, ◌≤◌, min, Bool, true, false, ◌&&◌, eqb, List, [], ◌∷◌, ◌++◌, length, take, set, sym, refl, ap, ◌∙◌, subst, inl, inr, arith}
+use Rattle.std.proofs.Common.{◌≡◌, ℕ, ◌+◌, ◌-◌, ◌<◌, ◌≤◌, min, true, false, ◌&&◌, eqb, List, [], ◌∷◌, ◌++◌, length, take, set, sym, ap, ◌∙◌, subst, inl, inr, arith}
 use Rattle.std.proofs.lemmas.List.{length_push, take_all, take-take, take-append-le, take_more_set, set_past}
 use Rattle.std.proofs.lemmas.Bool.{false≢true, cases_lt, and_parts}
 use Rattle.script.proofs.Cuts.{init, init_is, cut_end, cut_on, ends_more, some_more}
-use Rattle.script.specs.Splits.{cut, ended, unended, some}
-use Rattle.script.specs.Splitters.{Shows, Keeps, Holds, Fed, ends_in_cr}
+use Rattle.script.specs.Splits.{unended, some}
+use Rattle.script.specs.Splitters.{Keeps, Fed}
 use Rattle.script.specs.declared.split.Splitter.{Splitter}
 
 take_min : (k : ℕ) (l : List ℕ) → take (min k (length l)) l ≡ take k l

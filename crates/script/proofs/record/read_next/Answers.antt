@@ -1,4 +1,4 @@
-use Rattle.std.proofs.Common.{◌≡◌, true, false, cond, eqb, ◌∷◌, length, get_or, None, sym, ap, ◌∙◌, subst}
+use Rattle.std.proofs.Common.{length, get_or, None, sym, ap, ◌∙◌}
 use Rattle.std.proofs.lemmas.Bool.{cond-true, cond-false, eq-eqb, ne_eqb}
 use Rattle.std.specs.List.{between}
 use Rattle.script.proofs.Fields.{next_is, no_bytes, some_bytes}
