@@ -1,5 +1,5 @@
 -- Writes in a lent part of a table are writes in the table.
-use Rattle.std.proofs.Common.{◌≡◌, ℕ, suc, ◌+◌, ◌-◌, ◌<◌, ◌≤◌, List, [], ◌∷◌, ◌++◌, length, get_or, take, drop, set, Vec, sym, refl, ap, ◌∙◌, subst, arith, length-drop, length-set}
+use Rattle.std.proofs.Common.{◌≡◌, ℕ, ◌+◌, ◌-◌, ◌<◌, ◌≤◌, List, ◌++◌, length, get_or, take, drop, set, Vec, ap, ◌∙◌, arith, length-drop, length-set}
 use borrow.Rule.Slice.PartMut.{put_mid}
 use lib.Seq.{take-set-lt}
 use Rattle.std.specs.Vec.{with_items}

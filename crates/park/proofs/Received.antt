@@ -1,5 +1,5 @@
 -- After a fetch a place is free.
-use Rattle.std.proofs.Common.{◌≡◌, ℕ, ◌<◌, ◌≤◌, List, ◌∷◌, length, Some, None, Option, sym, ap, subst, arith, MatchOption}
+use Rattle.std.proofs.Common.{◌≡◌, ℕ, ◌<◌, ◌≤◌, List, length, Some, None, Option, sym, subst, arith, MatchOption}
 use Rattle.std.proofs.lemmas.List.Sorted.{length_permutation}
 use Rattle.terms.specs.declared.message.Mark.{Mark}
 use Rattle.terms.specs.declared.message.Mark.TheVariants.{Gone, Copied}

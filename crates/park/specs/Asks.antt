@@ -1,9 +1,8 @@
 -- What a call and a step do: they open a phase or give the answer.
-use Rattle.std.specs.Prelude.{◌≡◌, ℕ, zero, suc, ◌+◌, ◌-◌, Bool, true, false, cond, List, [], ◌∷◌, ◌++◌, Some, None, Ok, Err, Option, Result, ◌==◌}
+use Rattle.std.specs.Prelude.{◌≡◌, ℕ, zero, suc, ◌+◌, cond, List, [], ◌∷◌, ◌++◌, Some, None, Ok, Option, Result, ◌==◌}
 use Rattle.channel.specs.declared.channel.Channel as channel
 use Rattle.channel.specs.Sends.{SentAll}
 use Rattle.coins.specs.declared.Coins as coins
-use Rattle.terms.specs.declared.answer.Answer.{Answer}
 use Rattle.terms.specs.declared.answer.Progress.{Progress}
 use Rattle.terms.specs.declared.answer.Progress.TheVariants.{Opened, Answered}
 use Rattle.terms.specs.declared.message.Kind.TheVariants.{Phase}
@@ -17,7 +16,6 @@ use Rattle.terms.specs.declared.word.Side.{Side}
 use Rattle.terms.specs.declared.word.Word.{Word}
 use Rattle.terms.specs.Heard.{heard_groups, heard_names}
 use Rattle.terms.specs.Rules.{second_word, verdict_of, next_of}
-use Rattle.park.specs.declared.controller.Controller.{Controller}
 use Rattle.park.specs.Cells.{kept_word, saying}
 use Rattle.park.specs.Controllers.{answered, asking, has_called, ready_at, with_record}
 use Rattle.park.specs.Refusals.{Refused, Unless, first, when, name_refusal, too_few_places}

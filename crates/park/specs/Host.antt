@@ -1,5 +1,5 @@
 -- What a host can ask of a park, and its own hand in the channel.
-use Rattle.std.specs.Prelude.{◌≡◌, ℕ, Bool, true, false, cond, length, Some, None, Option, nat_lt}
+use Rattle.std.specs.Prelude.{◌≡◌, ℕ, Bool, true, false, cond, length, None, Option, nat_lt}
 use Rattle.channel.specs.declared.channel.Channel as channel
 use Rattle.terms.specs.declared.answer.Answer.{Answer}
 use Rattle.terms.specs.declared.message.Mark.{Mark}

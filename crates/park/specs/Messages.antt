@@ -1,5 +1,5 @@
 -- What a message does to its receiver: a delivery, a receive, and a crash.
-use Rattle.std.specs.Prelude.{◌≡◌, ℕ, Bool, true, false, not, ◌&&◌, List, length, Some, None, Ok, Err, Option, Result, ◌==◌, nat_le}
+use Rattle.std.specs.Prelude.{◌≡◌, ℕ, Bool, true, false, not, ◌&&◌, length, Some, None, Ok, Option, Result, ◌==◌, nat_le}
 use Rattle.channel.specs.declared.channel.Channel as channel
 use Rattle.terms.specs.declared.message.Kind.{Kind}
 use Rattle.terms.specs.declared.message.Kind.TheVariants.{Phase, Echo}

@@ -1,5 +1,5 @@
 -- Opening and closing a park.
-use Rattle.std.specs.Prelude.{◌≡◌, ℕ, ◌-◌, ◌*◌, Bool, true, false, not, List, ◌++◌, length, drop, replicate, Some, None, Ok, Err, vec_items, vec_len, Option, Result, nat_lt}
+use Rattle.std.specs.Prelude.{◌≡◌, ℕ, ◌-◌, ◌*◌, not, List, ◌++◌, length, drop, replicate, Some, None, Ok, Err, vec_items, vec_len, Option, Result, nat_lt}
 use Rattle.channel.specs.declared.channel.Channel as channel
 use Rattle.permit.specs.Acts.{new_desk}
 use Rattle.terms.specs.declared.refusal.Refusal.{Refusal}

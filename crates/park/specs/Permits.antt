@@ -1,5 +1,5 @@
 -- Collecting an answer, and the permit acts of a park.
-use Rattle.std.specs.Prelude.{◌≡◌, ℕ, Bool, true, false, not, Some, None, Ok, Err, Option, Result}
+use Rattle.std.specs.Prelude.{◌≡◌, ℕ, not, Some, None, Ok, Option, Result}
 use Rattle.permit.specs.Acts.{at_stage, same_stage}
 use Rattle.permit.specs.declared.desk.Desk.{Desk}
 use Rattle.permit.specs.declared.desk.PermitStage.TheVariants.{NotGiven, Held}

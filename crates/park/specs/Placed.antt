@@ -1,5 +1,5 @@
 -- Records in which whoever asks does so at a place within the limits.
-use Rattle.std.specs.Prelude.{Bool, true, false, List}
+use Rattle.std.specs.Prelude.{Bool, true, List}
 use Rattle.terms.specs.Places.{within}
 use Rattle.terms.specs.Readings.{every}
 use Rattle.park.specs.declared.controller.Controller.{Controller}

@@ -1,8 +1,8 @@
 -- Which refusal applies first, and what an act does unless it is refused.
-use Rattle.std.specs.Prelude.{◌≡◌, ℕ, ◌-◌, Bool, true, false, not, length, Some, None, Ok, Err, Option, Result, nat_lt}
+use Rattle.std.specs.Prelude.{◌≡◌, ℕ, ◌-◌, Bool, true, false, not, length, Some, None, Err, Option, Result, nat_lt}
 use Rattle.channel.specs.declared.channel.Channel as channel
 use Rattle.terms.specs.declared.refusal.Refusal.{Refusal}
-use Rattle.terms.specs.declared.refusal.Refusal.TheVariants.{Name, Down, NoPlace}
+use Rattle.terms.specs.declared.refusal.Refusal.TheVariants.{Name, Down}
 use Rattle.terms.specs.Places.{between}
 use Rattle.park.specs.States.{State, of}
 

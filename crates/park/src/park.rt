@@ -11,7 +11,7 @@ use terms::word::Cell;
 
 // The cells, the channel and the coins that the host handed over are the park's until it is closed.
 #[derive(Drop)]
-pub struct Park<C: Channel, K: Coins> {
+pub struct Park<C, K> {
     pub(crate) head: Head,
     pub(crate) desk: Desk,
     pub(crate) roster: Roster,

@@ -1,5 +1,4 @@
 use Rattle.std.proofs.Common.{refl}
-use Rattle.std.specs.List.{AllByRecursion as All}
 use Rattle.cases.specs.Further as further
 use Rattle.cases.proofs.further_examples_hold.Goals as goal
 

@@ -1,4 +1,4 @@
-use Rattle.std.proofs.Common.{◌≡◌, ◌+◌, List, sym, subst, arith}
+use Rattle.std.proofs.Common.{◌+◌, List, sym, subst, arith}
 use Rattle.terms.specs.declared.message.Message.{Message}
 use Rattle.channel.specs.Sends.{SentAll}
 use Rattle.channel.proofs.Sends.{sent_more, sent_count}

@@ -1,4 +1,4 @@
-use Rattle.std.proofs.Common.{◌≡◌, ◌+◌, ◌-◌, ◌*◌, List, length, get_or, take, drop, sym, refl, ap, ◌∙◌, arith, length-set}
+use Rattle.std.proofs.Common.{◌≡◌, ◌+◌, ◌-◌, ◌*◌, List, length, get_or, take, drop, refl, ap, ◌∙◌, arith, length-set}
 use borrow.Rule.Slice.PartMut.{put_mid}
 use Rattle.terms.specs.declared.word.Cell.{Cell}
 use Rattle.terms.specs.declared.word.Cell.TheVariants.{Empty, Holds}
@@ -10,8 +10,8 @@ pub returns : goal.returns
 returns c =
     let v = c.args.cells.now in
     let xs = v.items in
-    let lent : List Cell = c.deref-mut.result.now in
-    let same : lent ≡ xs = c.deref-mut.ensures.value in
+    let lent : List Cell = c.deref_mut.result.now in
+    let same : lent ≡ xs = c.deref_mut.ensures.value in
     let p = c.args.p in
     let a = (p - 1) * 1024 in
     let k = a + 1024 - a in

@@ -1,7 +1,7 @@
 use Rattle.std.proofs.Common.{◌≡◌, ℕ, ◌-◌, ◌≤◌, min, List, take, Option, ap, ◌∙◌, arith}
 use Rattle.terms.specs.declared.word.Side.{Side}
 use Rattle.terms.specs.declared.word.Word.{Word}
-use Rattle.terms.specs.Heard.{heard_entries, heard_groups, heard_names}
+use Rattle.terms.specs.Heard.{heard_entries, heard_groups}
 use Rattle.park.specs.declared.controller.Controller.{Controller}
 use Rattle.park.specs.Asks.{progress_after}
 use Rattle.park.specs.States.{view, of}
@@ -26,7 +26,7 @@ returns g c =
     let gs = front_is (λ w. w.group) h.result.groups h.result.count s.n _ (of s p) few same h.ensures.groups in
     let ns = front_is (λ w. w.name) h.result.names h.result.count s.n _ (of s p) few same h.ensures.names in
     record {
-      value = c.progress_after.ensures.value ∙ ap (λ (l : List (Option Side)). progress_after g.C.Channel g.K.Coins s p l (take (h.result.count - 0) h.result.names) at) gs
+      value = c.progress_by.ensures.value ∙ ap (λ (l : List (Option Side)). progress_after g.C.Channel g.K.Coins s p l (take (h.result.count - 0) h.result.names) at) gs
           ∙ ap (λ (l : List (Option ℕ)). progress_after g.C.Channel g.K.Coins s p (heard_groups s.n (of s p).heard (of s p).words) l at) ns;
-      within = c.progress_after.ensures.within;
+      within = c.progress_by.ensures.within;
     }
