@@ -1,5 +1,5 @@
 -- Every run from a fresh park keeps the promise.
-use Rattle.std.proofs.Common.{◌≡◌, ℕ, ◌+◌, ◌-◌, ◌≤◌, Bool, true, false, cond, ◌⊎◌, [], ◌∷◌, Some, Option, sym, refl, ap, ◌∙◌, subst, inl, inr}
+use Rattle.std.proofs.Common.{◌≡◌, ℕ, ◌+◌, ◌≤◌, Bool, true, false, cond, ◌⊎◌, [], ◌∷◌, Some, Option, sym, refl, ap, ◌∙◌, subst, inl, inr}
 use Rattle.channel.specs.declared.channel.Channel as channel
 use Rattle.channel.specs.Meaning.{Gives, SameBag}
 use Rattle.coins.specs.declared.Coins as coins

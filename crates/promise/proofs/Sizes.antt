@@ -20,7 +20,7 @@ use Rattle.terms.specs.Heard.{blank, heard_groups, heard_names, majority_of}
 use Rattle.terms.specs.Places.{between, within}
 use Rattle.terms.specs.Rules.{next_of, verdict_of}
 use Rattle.park.specs.declared.controller.Controller.{Controller}
-use Rattle.park.specs.declared.controller.Stage.TheVariants.{Asking, Answered}
+use Rattle.park.specs.declared.controller.Stage.TheVariants.{Asking}
 use Rattle.park.specs.Asks.{after_first, after_second, first_place, next_round, second_phase, goes_to, progress_after}
 use Rattle.park.specs.Cells.{kept_at, said_at, kept_word, keeping}
 use Rattle.park.specs.Controllers.{answered, hearing, nobody, record_of, uncalled, with_record}

@@ -1,8 +1,7 @@
 -- The promise over every run, in the words of the subject.
-use Rattle.std.specs.Prelude.{◌≡◌, ℕ, ◌+◌, ◌-◌, ◌/◌, ◌%◌, ◌^◌, ◌<◌, ◌≤◌, Bool, true, false, ◌⊎◌, List, [], ◌∷◌, is_ok, Some, Ok, Err, Result, count_ones}
+use Rattle.std.specs.Prelude.{◌≡◌, ℕ, ◌+◌, ◌-◌, ◌/◌, ◌%◌, ◌^◌, ◌<◌, ◌≤◌, true, ◌⊎◌, [], ◌∷◌, is_ok, Some, Ok, Err, Result, count_ones}
 use Rattle.channel.specs.declared.channel.Channel as channel
 use Rattle.coins.specs.declared.Coins as coins
-use Rattle.permit.specs.declared.held.HeldPermit.{HeldPermit}
 use Rattle.terms.specs.declared.answer.Answer.{Answer}
 use Rattle.terms.specs.declared.answer.Answer.TheVariants.{Yes, No}
 use Rattle.terms.specs.declared.answer.Progress.{Progress}
@@ -16,7 +15,7 @@ use Rattle.park.specs.Asks.{Steps}
 use Rattle.park.specs.Messages.{Delivers}
 use Rattle.park.specs.States.{State}
 use Rattle.park.specs.declared.collected.Collected.TheVariants as collects
-use Rattle.promise.specs.declared.act.Act.TheVariants.{Call, Step, Crash, Deliver}
+use Rattle.promise.specs.declared.act.Act.TheVariants.{Call, Step, Crash}
 use Rattle.promise.specs.declared.act.Outcome.{Outcome}
 use Rattle.promise.specs.declared.act.Outcome.TheVariants.{Advanced}
 use Rattle.promise.specs.Runs.{Event, performed, collected, loaded, dispatched, handed_back, History, Run, Fresh}

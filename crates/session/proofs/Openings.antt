@@ -1,8 +1,6 @@
 -- An opening of a session, by the opening of its park.
-use Rattle.std.proofs.Common.{◌≡◌, ℕ, min, Bool, true, false, [], is_some, Some, None, Ok, Err, Option, Result, sym, refl, ap, ◌∙◌, subst, true≢false}
+use Rattle.std.proofs.Common.{◌≡◌, ℕ, false, is_some, Some, None, Ok, Err, Option, Result, sym, refl, ap, ◌∙◌, subst, true≢false}
 use Rattle.std.specs.Global.{Vec}
-use Rattle.channel.specs.LineOrder.{waiting, places_of}
-use Rattle.channel.specs.contracts.line.LineChannel.TheImpl as line-channel
 use Rattle.channel.specs.declared.line.state.Line.{Line}
 use Rattle.coins.specs.declared.seeded.Seeded.{Seeded}
 use Rattle.park.specs.Opening.{OpensUnless}
@@ -13,7 +11,7 @@ use Rattle.script.specs.declared.report.Report.{Report}
 use Rattle.terms.specs.declared.refusal.Refusal.{Refusal}
 use Rattle.terms.specs.declared.word.Cell.{Cell}
 use Rattle.session.specs.declared.session.Session.{Session}
-use Rattle.session.specs.Sessions.{EmptyLine, OpeningFor0, Opens, OpensOnce, TakesUp, TellsOpening}
+use Rattle.session.specs.Sessions.{EmptyLine, OpeningFor0, OpensOnce, TakesUp, TellsOpening}
 
 pub none_of : {X : Type 0} (x : Option X) → is_some x ≡ false → x ≡ None
 none_of None e = refl

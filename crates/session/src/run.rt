@@ -102,10 +102,7 @@ fn tell_last(
 fn add_line(text: &mut String, report: Report) -> Result<(), AllocError>
     ensures { OnOk result (string_bytes text.new ≡ string_bytes text.old ++ line_of report) }
 {
-    match write!(text, "{report}") {
-        Ok(()) => Ok(()),
-        Err(_) => Err(AllocError),
-    }
+    write!(text, "{report}")
 }
 
 // Takes in the next byte of a script, and answers the record that ends with it, if one does.

@@ -16,7 +16,6 @@ use Rattle.terms.specs.declared.refusal.Refusal.TheVariants as refusals
 use Rattle.terms.specs.declared.word.Place.{Place}
 use Rattle.terms.specs.declared.word.Side.TheVariants.{Zero}
 use Rattle.terms.specs.declared.word.Word.{Word}
-use Rattle.terms.specs.Heard.{blank}
 use Rattle.terms.specs.Places.{well_formed}
 use Rattle.park.specs.Asks.{Advances, StepsFrom, Opens, nameless, opened, opens_selector, phases, progress_from}
 use Rattle.park.specs.Controllers.{after_echo, answered, has_called, ready_at}

@@ -1,5 +1,5 @@
 -- One controller: call, step and step give yes, collecting gives the permit, which is loaded and dispatched.
-use Rattle.std.proofs.Common.{◌≡◌, ℕ, ◌+◌, ◌-◌, ◌<◌, true, false, cond, not, ◌&&◌, eqb, ltb, leb, List, [], ◌∷◌, ◌++◌, length, get_or, drop, replicate, Some, None, Ok, Option, Result, sym, refl, ap, ◌∙◌, subst, inl, inr, arith}
+use Rattle.std.proofs.Common.{◌≡◌, ℕ, ◌<◌, true, false, cond, not, ◌&&◌, eqb, ltb, leb, List, [], ◌∷◌, ◌++◌, length, get_or, drop, replicate, Some, None, Ok, Option, Result, sym, refl, ap, ◌∙◌, subst, inl, inr, arith}
 use lib.Count.{ones, ones_in}
 use Rattle.std.proofs.lemmas.List.{get_or_append_left, get_or-replicate, get_or-set_same, get_or-set_other, length-replicate, length-set}
 use Rattle.std.proofs.lemmas.Bool.{and_from, cond-true, eq-eqb, le-ltb}
@@ -20,7 +20,7 @@ use Rattle.terms.specs.declared.word.Cell.{Cell}
 use Rattle.terms.specs.declared.word.Cell.TheVariants.{Empty, Holds}
 use Rattle.terms.specs.declared.word.Place.{Place}
 use Rattle.terms.specs.declared.word.Word.{Word}
-use Rattle.terms.specs.Heard.{alone, blank, heard_entries, heard_names}
+use Rattle.terms.specs.Heard.{blank, heard_entries, heard_names}
 use Rattle.park.specs.Asks.{Advances, Calls, Steps, StepsFrom, Opens, first_place, opened, own_word, progress_after, progress_from, second_phase}
 use Rattle.park.specs.Cells.{first_word, kept_at, keeping, kept_word}
 use Rattle.park.specs.Controllers.{answer_in, answered, asking, has_called, nobody, ready_at, ready_by, record_of, uncalled, with_record}

@@ -1,9 +1,6 @@
 use Rattle.std.proofs.Common.{[], IfOk, Ok, Err, Result}
-use Rattle.park.specs.declared.park.NotOpened.{NotOpened}
-use Rattle.park.specs.declared.park.Park.{Park}
 use Rattle.park.specs.States.{view}
-use Rattle.promise.specs.Promise.{Promise}
-use Rattle.promise.specs.Runs.{Fresh, start}
+use Rattle.promise.specs.Runs.{start}
 use Rattle.promise.proofs.Kept.{every_run_keeps_the_promise}
 use Rattle.promise.proofs.Opened.{opened_fresh}
 use Rattle.promise.proofs.open.open.Goals as goal
