@@ -1,14 +1,19 @@
 #!/usr/bin/env bash
 # Shows that the compiler refuses each misuse of a permit, for the right reason, and accepts the right uses in the same setting.
-# Usage: misuse.sh [REPOSITORY], by default the top level of the git repository. It proves nothing and takes a few seconds.
+# Usage: misuse.sh [REPOSITORY], by default the top level of the git repository. It works on a copy of the crates terms and permit and takes about a minute.
 set -euo pipefail
 
 root=$(cd "${1:-$(git rev-parse --show-toplevel)}" && pwd -P)
-kit=$(dirname "$(dirname "$(rt doc)")")
 work=$(mktemp -d)
 trap 'rm -rf "$work"' EXIT
-cp -r "$root/crates/terms" "$root/crates/permit" "$work"
-libraries=(--lib "terms=$work/terms/src/lib.rt" --lib "permit=$work/permit/src/lib.rt")
+mkdir "$work/crates"
+for library in terms permit; do
+    mkdir "$work/crates/$library"
+    for part in src specs proofs; do
+        [ ! -d "$root/crates/$library/$part" ] || cp -r "$root/crates/$library/$part" "$work/crates/$library"
+    done
+done
+printf '%s\n' 'terms:' 'permit: terms' >"$work/crates.txt"
 
 fail() {
     printf 'misuse: FAILED: %s\n' "$1" >&2
@@ -16,33 +21,32 @@ fail() {
     exit 1
 }
 
-# write_crate NAME: the code of the tiny crate NAME comes from standard input.
-write_crate() {
-    mkdir -p "$work/$1/src"
+# try_crate NAME: checks the tiny crate NAME, whose code comes from standard input.
+try_crate() {
+    mkdir -p "$work/crates/$1/src"
+    echo "$1: terms permit" >>"$work/crates.txt"
     {
+        printf '#![tactic(auto)]\n\n'
         printf 'use permit::%s;\n' acts::Returned desk::Desk held::HeldPermit loaded::LoadedPermit
         cat
-    } >"$work/$1/src/lib.rt"
+    } >"$work/crates/$1/src/lib.rt"
+    (cd "$work/crates/$1" && rt check) >"$work/said" 2>&1
 }
 
 # refused NAME ERROR WHAT: the check refuses the crate, and its only error is ERROR, in the crate itself.
 refused() {
-    write_crate "$1"
     local status=0
-    rt check "$work/$1" "${libraries[@]}" >"$work/said" 2>&1 || status=$?
+    try_crate "$1" || status=$?
     [ "$status" -eq 1 ] || fail "$3: the check ended with status $status, not 1"
     [ "$(grep -c 'error\[' "$work/said")" -eq 1 ] || fail "$3: another number of errors than 1"
-    grep -F "$work/$1/src/lib.rt:" "$work/said" | grep -qF "error$2" || fail "$3: not refused with $2"
+    grep -F "src/lib.rt:" "$work/said" | grep -qF "error$2" || fail "$3: not refused with $2"
     printf 'misuse: %s: refused, as it must be (%s)\n' "$3" "$2"
 }
 
-# accepted NAME WHAT: the compiler accepts the crate; a proof is not asked for.
+# accepted NAME WHAT: the check proves the crate.
 accepted() {
-    write_crate "$1"
-    mkdir "$work/empty"
-    echo 'fn main() {}' >"$work/empty/main.rt"
-    "$kit/bin/rattle-print-mir" "$work/empty/main.rt" --crate-name empty --lib "$1=$work/$1/src/lib.rt" "${libraries[@]}" \
-        --extern "std=$kit/rlib/std.rlib" -L "dependency=$kit/rlib" >"$work/said" 2>&1 || fail "$2: not accepted"
+    try_crate "$1" || fail "$2: not accepted"
+    grep -q '^logic=proved' "$work/said" || fail "$2: not proved"
     printf 'misuse: %s: accepted, as it must be\n' "$2"
 }
 

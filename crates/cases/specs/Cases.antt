@@ -1,6 +1,6 @@
 -- The marked cases of the rules: ten rows, each called by what it says.
 use Rattle.std.specs.Prelude.{◌≡◌, ℕ, true, false, List, [], ◌∷◌, Some, None, Option}
-use Rattle.std.specs.List.{AllByRecursion as All}
+use Rattle.std.specs.List.{AllByRecursion}
 use Rattle.coins.specs.Draws.{seeded_draw}
 use Rattle.terms.specs.declared.rules.Next.{Next}
 use Rattle.terms.specs.declared.rules.Next.TheVariants as next
@@ -44,7 +44,7 @@ HoldsAlone (draw_is seed draw side) = seeded_draw seed draw ≡ side
 
 -- a row holds if all of its cases do
 abbrev pub Holds : List Case → Type 0
-Holds row = All HoldsAlone row
+Holds row = AllByRecursion HoldsAlone row
 
 abbrev pub majorities_of_1_2_14_and_15 : List Case
 majorities_of_1_2_14_and_15 = majority_is 1 1 ∷ majority_is 2 2 ∷ majority_is 14 8 ∷ majority_is 15 8 ∷ []

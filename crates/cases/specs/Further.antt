@@ -1,6 +1,6 @@
 -- Further worked examples: what the marked cases leave open of the same definitions, of the draws, of well-formed messages and of the numbers of refusals.
 use Rattle.std.specs.Prelude.{◌≡◌, ℕ, Bool, true, false, List, [], ◌∷◌, Some, None, Option}
-use Rattle.std.specs.List.{AllByRecursion as All}
+use Rattle.std.specs.List.{AllByRecursion}
 use Rattle.coins.specs.Draws.{group_draw_number, coin_draw_number, listed_draw}
 use Rattle.terms.specs.declared.answer.Answer.TheVariants.{Yes, No, Undecided}
 use Rattle.terms.specs.declared.message.Kind.TheVariants.{Phase}
@@ -100,4 +100,4 @@ abbrev pub table : List (List Example)
 table = indices ∷ draws ∷ listed ∷ readings ∷ smallest ∷ limits ∷ messages ∷ numbers ∷ []
 
 abbrev pub RowHolds : List Example → Type 0
-RowHolds row = All Holds row
+RowHolds row = AllByRecursion Holds row
