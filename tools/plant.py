@@ -18,11 +18,11 @@ Among the definitions, 'file:' begins with crates/; the whole repository is chec
 comparison with the second implementation is run (reference/ must be built), and the first that
 fails is told.
 
-It works on copies and leaves the repository alone. 'rt check' must have gone through before,
-since what has not changed is taken over from target/. So this is no verdict like the gate's,
-and much faster. One line is printed for each edit: what the check said, and of which function.
+It works on copies and leaves the repository alone. A check begins with what checks on this
+machine have kept of the same crates. So this is no verdict like the gate's, and much faster.
+One line is printed for each edit: what the check said, and of which function. How a text is
+laid out in the source does not matter to an 'old:'.
 """
-import os
 import re
 import shutil
 import subprocess
@@ -60,6 +60,12 @@ def read_edits(crate, source):
     return edits
 
 
+def laid_out(text):
+    """A pattern of the text in any layout: white space is free between its words and marks, and so is a last comma."""
+    parts = re.findall(r"\w+|[^\w\s]", text)
+    return r"\s*".join((r",?\s*" if part in "})" and n else "") + re.escape(part) for n, part in enumerate(parts))
+
+
 def misfit(crate, edit, folder=None):
     """Why the edit does not fit the source, or None. With a folder, makes the edit there."""
     if not edit["pairs"]:
@@ -68,8 +74,13 @@ def misfit(crate, edit, folder=None):
     for file, old, new in edit["pairs"]:
         path = ROOT / inside / file
         text = texts.get(file) or path.read_text()
-        if new is None or old == "" or text.count(old) != 1:
-            return f"{file}: 'old:' stands {text.count(old) if old else 0} times: {old}"
+        if new is None or old.strip() == "":
+            return f"{file}: a pair is not whole: {old}"
+        if text.count(old) != 1:
+            found = list(re.finditer(laid_out(old), text))
+            if len(found) != 1:
+                return f"{file}: 'old:' stands {len(found)} times: {old}"
+            old = found[0].group(0)
         texts[file] = text.replace(old, new)
     for file, text in texts.items():
         if folder:
@@ -89,11 +100,11 @@ def verdict_of(status, log):
         if rest != "proved" and "no proof: it calls" not in rest and "it waits for" not in rest:
             refused.append(name.split("::")[-1])
     by = ", ".join(f"`{name}`" for name in refused)
-    error = re.search(r"^(\S*/(proofs|specs|src)/[^ :]*):\d+:\d+: error.*(?:\n(?!\S*: error|fn |note: /).*){0,6}", log, re.M)
+    error = re.search(r"^((?:\S*/)?(proofs|specs|src)/[^ :]*):\d+:\d+: error.*(?:\n(?!\S*: error|fn |note: ).*){0,6}", log, re.M)
     if error and error.group(2) == "proofs":
         shape = re.search(r"that can be named from here|has no field|has no member|is not in scope", error.group(0))
         return "shape only" if shape else "in the proof", by + " | " + " ".join(error.group(0).split())[:500]
-    note = re.search(r"^note: \S*/src/\S* (.*)$", log, re.M)
+    note = re.search(r"^note: (?:\S*/)?src/\S* (.*)$", log, re.M)
     if note and (not error or error.group(2) == "src"):
         return "promise", by + " | " + note.group(1)[:200]
     return "other", by + " | " + (" ".join(error.group(0).split())[:500] if error else log[-500:])
@@ -104,42 +115,41 @@ class Copy:
 
     def __init__(self):
         self.folder = Path(tempfile.mkdtemp(prefix="plant-"))
-        shutil.copytree(ROOT / "crates", self.folder / "crates")
+        self.take("crates")
         shutil.copy(ROOT / "crates.txt", self.folder)
-        for part in ("rlib", "stamp", "log", "obj"):
-            shutil.copytree(ROOT / "target" / part, self.folder / "target" / part)
 
-    def run(self, *words):
-        return subprocess.run(["nice", *words], cwd=self.folder, capture_output=True, text=True, env={**os.environ, "RT_JOBS": "1"})
+    def take(self, part):
+        shutil.copytree(ROOT / part, self.folder / part, ignore=shutil.ignore_patterns("out"))
+
+    def run(self, folder, *words):
+        return subprocess.run(["nice", *words], cwd=self.folder / folder, capture_output=True, text=True, stdin=subprocess.DEVNULL)
 
     def try_definition(self, edit):
-        for part in ("crates", "target"):
-            shutil.rmtree(self.folder / part, ignore_errors=True)
-            shutil.copytree(ROOT / part, self.folder / part)
+        for source in (ROOT / "crates").glob("*/specs/**/*.antt"), (ROOT / "crates").glob("*/src/**/*.rt"):
+            for path in source:
+                shutil.copy(path, self.folder / path.relative_to(ROOT))
         bad = misfit(DEFINITIONS, edit, self.folder)
         if bad:
             return "does not fit", bad
-        done = self.run("rt", "check")
+        done = self.run(".", "rt", "all", "check")
         if done.returncode:
-            log = done.stdout + done.stderr
-            stopped = [line for line in log.split("\n") if "NOT PROVED" in line or "wrote" in line and "what its file" not in line or "FAILED" in line]
-            verdict, detail = verdict_of(1, log)
-            return "refused", "; ".join(stopped)[:300] + " | " + detail
-        done = self.run(str(ROOT / "reference/target/release/reference"), "compare", "target/bin/dispatch", "2000")
+            return "refused", verdict_of(1, done.stdout + done.stderr)[1]
+        done = self.run("crates/dispatch", "rt", "run")
+        done = self.run(".", str(ROOT / "reference/target/release/reference"), "compare", "crates/dispatch/out/dispatch", "2000")
         return ("differs", done.stdout[:300]) if done.returncode else ("survived", "")
 
     def try_edit(self, crate, edit):
         if crate == DEFINITIONS:
             return self.try_definition(edit)
-        here, kept = self.folder / "crates" / crate, self.folder / "target" / "inc" / crate
-        shutil.rmtree(here)
-        shutil.copytree(ROOT / "crates" / crate, here)
-        shutil.rmtree(kept, ignore_errors=True)
-        shutil.copytree(ROOT / "target" / "inc" / crate, kept)
+        here = self.folder / "crates" / crate
+        for part in "src", "specs":
+            shutil.rmtree(here / part, ignore_errors=True)
+            if (ROOT / "crates" / crate / part).is_dir():
+                self.take(f"crates/{crate}/{part}")
         bad = misfit(crate, edit, self.folder)
         if bad:
             return "does not fit", bad
-        done = self.run("rt", "dev", crate)
+        done = self.run(f"crates/{crate}", "rt", "check")
         return verdict_of(done.returncode, done.stdout + done.stderr)
 
 
