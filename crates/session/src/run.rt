@@ -1,4 +1,4 @@
-// From a script to the lines of its output, in a fixed space.
+// From a script to the lines of its output, piece by piece, in a space that does not grow with the script.
 ghost use Rattle.std.specs.Prelude.{◌≡◌, ℕ, List, [], ◌∷◌, ◌++◌, IfOk, string_bytes, OnErr, OnOk};
 ghost use Rattle.script.specs.Lines.{line_of};
 ghost use Rattle.script.specs.Splitters.{Holds, Shows};
