@@ -1,6 +1,6 @@
 // The bag: the pick decides which message is given, and whether it stays.
 ghost use Rattle.std.specs.Prelude.{◌≡◌, ◌-◌, ◌<◌, ◌≤◌, min, [], ◌∷◌, length, take, Some, None, slice_set};
-ghost use Rattle.std.proofs.Common.{ap, sym, subst, rules, arith};
+ghost use Rattle.std.proofs.Common.{ap, sym, subst, arith};
 ghost use Rattle.channel.specs.BagExamples.{BagsHold};
 ghost use Rattle.channel.specs.BagOrder.{waiting, places_of, Joins, position, mark_of, MovesLast, GivesAtPick};
 ghost use Rattle.channel.specs.Memory.{places_in, Kept};
@@ -9,7 +9,7 @@ ghost use Rattle.channel.specs.MeaningLemmas.{one_more, same_bag, one_less, has_
 ghost use Rattle.std.proofs.lemmas.Nat.{mod_below};
 ghost use Rattle.terms.specs.declared.message.Mark.TheVariants.{Gone, Copied};
 ghost use Rattle.channel.specs.Meaning.{SameBag};
-ghost use Rattle.channel.specs.BagOrderLemmas.{copied_if_free};
+ghost use Rattle.channel.specs.BagOrderLemmas.{length_waiting, copied_if_free};
 
 mod state;
 
@@ -139,7 +139,7 @@ impl Channel for Bag {
 
     ghost fetches = { GivesAtPick };
 
-    ghost bounded = { first_of (Prim.search rules, Prim.grind (arith, Self.row.coded.inj)) };
+    ghost bounded = { λ c. omega (arith, length_waiting c) };
 
     ghost gains = { λ c m d s. (one_more _ _ m s.0, ap (min 65535) s.1.0) };
 
