@@ -1,10 +1,10 @@
 -- The waiting messages of a bag, by its fields, and what its mark tells.
-use Rattle.std.specs.Prelude.{◌≡◌, ℕ, ◌-◌, ◌<◌, List, length, get_or, vec_items, slice_index_or}
-use Rattle.std.proofs.Common.{sym, ap, ◌∙◌, arith}
+use Rattle.std.specs.Prelude.{◌≡◌, ℕ, ◌-◌, ◌^◌, ◌<◌, Bool, true, false, cond, List, length, get_or, vec_items, slice_index_or, nat_le, nat_lt}
+use Rattle.std.proofs.Common.{refl, sym, ap, ◌∙◌, arith}
 use Rattle.std.proofs.lemmas.List.{length-take-le, get_or-take, get_or_default}
-use Rattle.std.proofs.lemmas.Bool.Decides.{nat_tests}
+use Rattle.std.proofs.lemmas.Bool.{and_parts, ltb-true}
 use Rattle.terms.specs.declared.message.Message.{Message}
-use Rattle.terms.specs.declared.message.Mark.TheVariants.{Copied}
+use Rattle.terms.specs.declared.message.Mark.TheVariants.{Gone, Copied}
 use Rattle.channel.specs.BagOrder.{waiting, places_of, mark_of}
 use Rattle.channel.specs.Positions.{StandsAt, last_or}
 use Rattle.channel.specs.declared.bag.state.Bag.{Bag}
@@ -26,5 +26,13 @@ waiting_last c m z h read =
     let k : length (waiting c) - 1 ≡ n = omega arith in
     sym (ap (λ (i : ℕ). get_or (waiting c) i m) k ∙ get_or-take c.count xs n m (omega arith) ∙ get_or_default xs n m z (omega arith) ∙ sym read)
 
+-- of copied and gone, a test that gives copied was met
+met : (test : Bool) → Copied ≡ cond test Copied Gone → test ≡ true
+met true e = refl
+met false e = cc
+
 pub copied_if_free : (c : Bag) (pick : ℕ) → Copied ≡ mark_of c pick → length (waiting c) < places_of c
-copied_if_free c pick e = grind (arith, nat_tests)
+copied_if_free c pick e =
+    let large = nat_le (2 ^ 31) pick in
+    let free = nat_lt (length (waiting c)) (places_of c) in
+    ltb-true (length (waiting c)) (places_of c) (and_parts large free (met _ e)).1
