@@ -92,6 +92,8 @@ def verdict_of(status, log):
     """What the check said, and the functions of which it said so."""
     if status == 0:
         return "survived", ""
+    if "stopped at the step limit" in log:
+        return "limit only", re.search(r"^.*stopped at the step limit.*$", log, re.M).group(0)[:300]
     if "logic=not-proved" not in log:
         error = re.search(r"^.*\berror\b.*$", log, re.M)
         return "does not compile", error.group(0)[:300] if error else log[:300]
