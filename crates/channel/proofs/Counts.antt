@@ -13,7 +13,7 @@ use Rattle.terms.specs.declared.word.Word.{Word}
 use Rattle.terms.specs.declared.word.Place.{Place}
 use Rattle.channel.specs.Counts.{same_kind, same_side, same_option, same_word, same_place, same_message, how_many, BagsAreCounts}
 use Rattle.channel.specs.Meaning.{SameBag}
-use Rattle.channel.specs.Positions.{last_or}
+use Rattle.std.specs.List.{swap_remove}
 use Rattle.channel.specs.MeaningLemmas.{stands_at, one_less}
 
 decides_kind : (x y : Kind) → Decides (same_kind x y) (x ≡ y)
@@ -85,7 +85,7 @@ same_counts [] (y ∷ ys) h = absurd (omega (arith, h y, own_counts y ys))
 same_counts (x ∷ xs) ys h =
     let f = found x ys (omega (arith, h x, own_counts x xs)) in
     let i = f.0 in
-    let rest : List Message = take (length ys - 1) (set ys i (last_or x ys)) in
+    let rest : List Message = swap_remove ys i x in
     let out : SameBag ys (x ∷ rest) = one_less ys i x f.1 (stands_at ys i x f.1 f.2) in
     let left : (m : Message) → how_many m xs ≡ how_many m rest = λ m. omega (arith, h m, as_often ys (x ∷ rest) out m, many_cons m x xs, many_cons m x rest) in
     IsPermutation-trans _ _ _ (IsPermutation-cons x xs rest (same_counts xs rest left)) (IsPermutation-sym _ _ out)

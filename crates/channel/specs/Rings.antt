@@ -4,7 +4,7 @@ use Rattle.std.proofs.Common.{sym, ap, ◌∙◌, append_assoc, ⊎_elim, arith,
 use Rattle.std.proofs.Math.Seq.{take-set-lt}
 use Rattle.std.proofs.lemmas.List.{append-nil, take_more, drop_more, drop_all, take_all, length-take-le, take-append-le, take-set-le, drop-set-add, drop-set-lt, set-append_left, set-append_right, get_or-take, get_or-drop, get_or_append_left, get_or-append_right}
 use Rattle.std.proofs.lemmas.Bool.{cases_lt}
-use Rattle.channel.specs.LineOrder.{turned}
+use Rattle.channel.specs.Order.{turned}
 
 -- at is the place of a ring of p places that is i places after place f
 abbrev pub Placed : ℕ → ℕ → ℕ → ℕ → Type 0
