@@ -7,15 +7,15 @@ use Rattle.std.proofs.lemmas.List.{get_or-take, get_or_default, take_more_set, t
 use Rattle.terms.specs.declared.message.Message.{Message}
 use Rattle.channel.specs.MeaningLemmas.{stands_at, getD_standing}
 use Rattle.channel.specs.Memory.{places_in}
-use Rattle.channel.specs.Order.{turned, in_order}
+use Rattle.channel.specs.Order.{turned, IsPlace, in_order}
 use Rattle.channel.specs.OrderLemmas.{placed, length_placed, length_in_order}
 use Rattle.channel.specs.Positions.{StandsAt}
-use Rattle.channel.specs.Rings.{Placed, length_turned, getD_turned, set_turned, ring_rest}
+use Rattle.channel.specs.Rings.{length_turned, getD_turned, set_turned, ring_rest}
 use Rattle.channel.specs.declared.ring.Ring.{Ring}
 
-module _ (r : Ring) (i at : ℕ) (m : Message) (w : Placed (places_in r.memory) r.first i at) where
-  in_ring : Placed (length (placed r)) r.first i at
-  in_ring = subst (λ (p : ℕ). Placed p r.first i at) (sym (length_placed r)) w
+module _ (r : Ring) (i at : ℕ) (m : Message) (w : IsPlace (places_in r.memory) r.first i at) where
+  in_ring : IsPlace (length (placed r)) r.first i at
+  in_ring = subst (λ (p : ℕ). IsPlace p r.first i at) (sym (length_placed r)) w
 
   -- what is read at a place stands at a position
   pub read_at : i < length (in_order r) → at < places_in r.memory → m ≡ slice_index_or (vec_items r.memory) at m → StandsAt (in_order r) i m
@@ -39,7 +39,7 @@ module _ (r : Ring) (i at : ℕ) (m : Message) (w : Placed (places_in r.memory) 
 
 module _ (r : Ring) (at : ℕ) where
   -- a message is written after the last
-  pub one_behind : (m : Message) → Placed (places_in r.memory) r.first r.count at → r.count < places_in r.memory → at < places_in r.memory
+  pub one_behind : (m : Message) → IsPlace (places_in r.memory) r.first r.count at → r.count < places_in r.memory → at < places_in r.memory
       → take (r.count + 1) (turned (take 65535 (slice_set (vec_items r.memory) at m)) r.first) ≡ in_order r ++ m ∷ []
   one_behind m w h k =
       let l = length_placed r in
@@ -47,10 +47,10 @@ module _ (r : Ring) (at : ℕ) where
       ∙ take_more_set (turned (placed r) r.first) r.count m (omega (arith, length_turned (placed r) r.first (omega arith)))
 
   -- the first is left out
-  pub first_out : Placed (places_in r.memory) r.first 0 at → 0 < r.count → take (r.count - 1) (turned (placed r) (at + 1)) ≡ drop 1 (in_order r)
+  pub first_out : IsPlace (places_in r.memory) r.first 0 at → 0 < r.count → take (r.count - 1) (turned (placed r) (at + 1)) ≡ drop 1 (in_order r)
   first_out w h =
       let l = length_placed r in
-      ring_rest (placed r) r.first r.count at (omega arith) h (omega arith) (subst (λ (p : ℕ). Placed p r.first 0 at) (sym l) w)
+      ring_rest (placed r) r.first r.count at (omega arith) h (omega arith) (subst (λ (p : ℕ). IsPlace p r.first 0 at) (sym l) w)
 
 -- the last is left out
 pub last_out : (r : Ring) → take (r.count - 1) (turned (placed r) r.first) ≡ take (length (in_order r) - 1) (in_order r)

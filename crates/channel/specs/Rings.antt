@@ -4,18 +4,14 @@ use Rattle.std.proofs.Common.{sym, ap, ◌∙◌, append_assoc, ⊎_elim, arith,
 use Rattle.std.proofs.Math.Seq.{take-set-lt}
 use Rattle.std.proofs.lemmas.List.{append-nil, take_more, drop_more, drop_all, take_all, length-take-le, take-append-le, take-set-le, drop-set-add, drop-set-lt, set-append_left, set-append_right, get_or-take, get_or-drop, get_or_append_left, get_or-append_right}
 use Rattle.std.proofs.lemmas.Bool.{cases_lt}
-use Rattle.channel.specs.Order.{turned}
-
--- at is the place of a ring of p places that is i places after place f
-abbrev pub Placed : ℕ → ℕ → ℕ → ℕ → Type 0
-Placed p f i at = (f + i < p → at ≡ f + i) × (p ≤ f + i → at + p ≡ f + i)
+use Rattle.channel.specs.Order.{turned, IsPlace}
 
 module _ {X : Type 0} where
   pub length_turned : (xs : List X) (f : ℕ) → f ≤ length xs → length (turned xs f) ≡ length xs
   length_turned xs f h = omega (arith, length-append (drop f xs) (take f xs), length-drop f xs, length-take-le f xs h)
 
   -- a read and a write at a place, as a read and a write in the order of the ring
-  pub getD_turned : (xs : List X) (f i at : ℕ) (d : X) → f ≤ length xs → i < length xs → Placed (length xs) f i at → slice_index_or (turned xs f) i d ≡ slice_index_or xs at d
+  pub getD_turned : (xs : List X) (f i at : ℕ) (d : X) → f ≤ length xs → i < length xs → IsPlace (length xs) f i at → slice_index_or (turned xs f) i d ≡ slice_index_or xs at d
   getD_turned xs f i at d h k w =
       let l = length-drop f xs in
       ⊎_elim
@@ -25,7 +21,7 @@ module _ {X : Type 0} where
       get_or-append_right (drop f xs) (take f xs) (length xs - f) i d l (omega arith) ∙ ap (λ (j : ℕ). get_or (take f xs) j d) e ∙ get_or-take f xs at d (omega arith))
       (cases_lt (f + i) (length xs))
 
-  pub set_turned : (xs : List X) (f i at : ℕ) (x : X) → f ≤ length xs → i < length xs → Placed (length xs) f i at → turned (slice_set xs at x) f ≡ slice_set (turned xs f) i x
+  pub set_turned : (xs : List X) (f i at : ℕ) (x : X) → f ≤ length xs → i < length xs → IsPlace (length xs) f i at → turned (slice_set xs at x) f ≡ slice_set (turned xs f) i x
   set_turned xs f i at x h k w =
       let l = length-drop f xs in
       ⊎_elim
@@ -67,7 +63,7 @@ module _ {X : Type 0} where
       one ∙ ap (λ (q : List X). x ∷ q) (sym two)
 
   -- the first of u leaves the ring
-  pub ring_rest : (xs : List X) (f u at : ℕ) → f ≤ length xs → 0 < u → u ≤ length xs → Placed (length xs) f 0 at
+  pub ring_rest : (xs : List X) (f u at : ℕ) → f ≤ length xs → 0 < u → u ≤ length xs → IsPlace (length xs) f 0 at
       → take (u - 1) (turned xs (at + 1)) ≡ drop 1 (take u (turned xs f))
   ring_rest [] f u at h k l w = absurd (omega arith)
   ring_rest (y ∷ ys) f u at h k l w =

@@ -18,7 +18,7 @@ pub(crate) struct Ring {
 }
 
 impl Ring {
-    ghost use Rattle.channel.specs.Order.{in_order, Becomes, Joins};
+    ghost use Rattle.channel.specs.Order.{IsPlace, in_order, Becomes, Joins};
 
     // Nothing waits in a new ring; its places are those of the memory.
     pub(crate) fn new(memory: Vec<Message>) -> Ring
@@ -45,6 +45,7 @@ impl Ring {
     }
 
     // How many messages wait.
+    #[tactic(auto, using(crate::specs::OrderLemmas::length_in_order))]
     pub(crate) fn len(&self) -> usize
         ensures waiting { result ≡ length (in_order self.now) }
         ensures count { result ≡ self.now.count }
@@ -62,8 +63,7 @@ impl Ring {
     // The place that is i places after that of the first message.
     fn place_of(&self, i: usize) -> usize
         requires { i < places_in self.now.memory }
-        ensures before_the_end { self.now.first + i < places_in self.now.memory → result ≡ self.now.first + i }
-        ensures past_the_end { places_in self.now.memory ≤ self.now.first + i → result + places_in self.now.memory ≡ self.now.first + i }
+        ensures place { IsPlace (places_in self.now.memory) self.now.first i result }
         ensures within { result < places_in self.now.memory }
     {
         let places = self.places();

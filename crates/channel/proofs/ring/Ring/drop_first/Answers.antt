@@ -5,4 +5,4 @@ use Rattle.channel.proofs.ring.Ring.drop_first.Goals as goal
 pub returns : goal.returns
 returns c =
     let p = c.place_of.ensures in
-    (first_out c.args.self.now c.place_of.result (p.before_the_end, p.past_the_end) c.requires, (refl, refl))
+    (first_out c.args.self.now c.place_of.result p.place c.requires, (refl, refl))

@@ -4,4 +4,4 @@ use Rattle.channel.proofs.ring.Ring.message_at.Goals as goal
 pub returns : goal.returns
 returns c =
     let p = c.place_of.ensures in
-    read_at c.args.self.now c.args.i c.place_of.result c.index.result.now (p.before_the_end, p.past_the_end) c.requires p.within c.index.ensures
+    read_at c.args.self.now c.args.i c.place_of.result c.index.result.now p.place c.requires p.within c.index.ensures
