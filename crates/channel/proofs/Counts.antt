@@ -37,19 +37,19 @@ decides_option same dec (Some x) (Some y) = (λ e. ap Some ((dec x y).0 e), λ e
 
 decides_word : (v w : Word) → Decides (word-eq.ghosts.eq v w) (v ≡ w)
 decides_word v w =
-    Decides-like _ (λ h. λ i. record { group = h.0 i; name = h.1 i }) (λ e. (ap (λ (u : Word). u.group) e, ap (λ (u : Word). u.name) e))
+    Decides-like _ (λ h. λ i. record { group = h.0 i; name = h.1 i }) (λ e. (cc, cc))
     (Decides-and _ _ (decides_option side-eq.ghosts.eq decides_side v.group w.group) (decides_option nat_eq Decides-eqb v.name w.name))
 
 decides_place : (p q : Place) → Decides (place-eq.ghosts.eq p q) (p ≡ q)
 decides_place p q =
     Decides-like _ (λ h. λ i. record { selector = h.0 i; round = h.1.0 i; phase = h.1.1 i })
-    (λ e. (ap (λ (u : Place). u.selector) e, (ap (λ (u : Place). u.round) e, ap (λ (u : Place). u.phase) e)))
+    (λ e. (cc, (cc, cc)))
     (Decides-and _ _ (Decides-eqb _ _) (Decides-and _ _ (Decides-eqb _ _) (Decides-eqb _ _)))
 
 decides_message : (m n : Message) → Decides (same_message m n) (m ≡ n)
 decides_message m n =
     Decides-like _ (λ h. λ i. record { kind = h.0 i; sender = h.1.0 i; receiver = h.1.1.0 i; place = h.1.1.1.0 i; word = h.1.1.1.1 i })
-    (λ e. (ap (λ (u : Message). u.kind) e, (ap (λ (u : Message). u.sender) e, (ap (λ (u : Message). u.receiver) e, (ap (λ (u : Message). u.place) e, ap (λ (u : Message). u.word) e)))))
+    (λ e. (cc, (cc, (cc, (cc, cc)))))
     (Decides-and _ _ (decides_kind _ _) (Decides-and _ _ (Decides-eqb _ _) (Decides-and _ _ (Decides-eqb _ _) (Decides-and _ _ (decides_place _ _) (decides_word _ _)))))
 
 -- what n adds to the number of m

@@ -8,9 +8,9 @@ use Rattle.terms.specs.declared.message.Message.{Message}
 use Rattle.channel.specs.MeaningLemmas.{stands_at, getD_standing}
 use Rattle.channel.specs.Memory.{places_in}
 use Rattle.channel.specs.Order.{turned, IsPlace, in_order}
-use Rattle.channel.specs.OrderLemmas.{placed, length_placed, length_in_order}
+use Rattle.channel.specs.OrderLemmas.{length_turned, placed, length_placed, length_in_order}
 use Rattle.channel.specs.Positions.{StandsAt}
-use Rattle.channel.specs.Rings.{length_turned, getD_turned, set_turned, ring_rest}
+use Rattle.channel.proofs.Rings.{getD_turned, set_turned, ring_rest}
 use Rattle.channel.specs.declared.ring.Ring.{Ring}
 
 module _ (r : Ring) (i at : ℕ) (m : Message) (w : IsPlace (places_in r.memory) r.first i at) where

@@ -9,5 +9,4 @@ pub mod Memory
 pub mod Order
 pub mod OrderLemmas
 pub mod Positions
-pub mod Rings
 pub mod Sends

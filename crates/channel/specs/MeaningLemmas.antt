@@ -18,10 +18,10 @@ one_more xs ys m e = subst (SameBag (m ∷ xs)) (sym e) (IsPermutation-sym _ _ (
 
 module _ (xs : List Message) (i : ℕ) (m : Message) where
   pub stands_at : i < length xs → slice_index_or xs i m ≡ m → StandsAt xs i m
-  stands_at h e = sym (take-append-drop i xs) ∙ ap (λ (r : List Message). take i xs ++ r) (drop_more xs i m h ∙ ap (λ (x : Message). x ∷ drop (i + 1) xs) e)
+  stands_at h e = let whole = take-append-drop i xs in let rest = drop_more xs i m h in cc
 
   pub has_standing : StandsAt xs i m → Has xs m
-  has_standing s = subst (λ (l : List Message). Has l m) (sym s) (has_append_right (take i xs) _ m (has_get_or (m ∷ drop (i + 1) xs) 0 m (omega arith)))
+  has_standing s = rw s (has_append_right (take i xs) _ m (has_get_or (m ∷ drop (i + 1) xs) 0 m (omega arith)))
 
   pub getD_standing : i < length xs → StandsAt xs i m → slice_index_or xs i m ≡ m
   getD_standing h s = ap (λ (l : List Message). get_or l i m) s ∙ get_or_at (take i xs) m (drop (i + 1) xs) m i (length-take-le i xs (omega arith))

@@ -1,14 +1,16 @@
 -- How many messages wait in a ring, and what one more is to the bag of those that wait.
-use Rattle.std.specs.Prelude.{◌≡◌, ◌≤◌, min, List, ◌∷◌, length, take, vec_items}
-use Rattle.std.proofs.Common.{ap, arith, length-take}
+use Rattle.std.specs.Prelude.{◌≡◌, ℕ, ◌≤◌, min, List, ◌∷◌, length, take, drop, vec_items}
+use Rattle.std.proofs.Common.{ap, arith, length-append, length-drop, length-take}
 use Rattle.std.proofs.lemmas.List.{length-take-le}
 use Rattle.terms.specs.declared.message.Message.{Message}
 use Rattle.channel.specs.Meaning.{SameBag}
 use Rattle.channel.specs.MeaningLemmas.{one_more}
 use Rattle.channel.specs.Memory.{places_in}
 use Rattle.channel.specs.Order.{turned, in_order, Joins}
-use Rattle.channel.specs.Rings.{length_turned}
 use Rattle.channel.specs.declared.ring.Ring.{Ring}
+
+pub length_turned : {X : Type 0} (xs : List X) (f : ℕ) → f ≤ length xs → length (turned xs f) ≡ length xs
+length_turned xs f h = omega (arith, length-append (drop f xs) (take f xs), length-drop f xs, length-take-le f xs h)
 
 -- the messages in the places
 abbrev pub placed : Ring → List Message
