@@ -1,5 +1,5 @@
 -- Lists that begin at a place and go on at their start, as a ring has them in its memory.
-use Rattle.std.specs.Prelude.{◌≡◌, ℕ, ◌+◌, ◌-◌, ◌<◌, ◌≤◌, List, ◌++◌, length, get_or, take, drop, slice_index_or, slice_set}
+use Rattle.std.specs.Prelude.{◌≡◌, ℕ, ◌+◌, ◌-◌, ◌<◌, ◌≤◌, List, length, get_or, take, drop, slice_index_or, slice_set}
 use Rattle.std.proofs.Common.{⊎_elim, arith, length-drop, length-take}
 use Rattle.std.proofs.Math.Seq.{take-set-lt}
 use Rattle.std.proofs.lemmas.Bool.{cases_lt}
@@ -34,7 +34,7 @@ module _ {X : Type 0} where
       let right = get_or-drop 1 (take u (turned xs f)) j d in
       let more = get_or-take u (turned xs f) (1 + j) d in
       let same : (p : ℕ) → IsPlace (length xs) f (1 + j) p → IsPlace (length xs) (at + 1) j p → get_or (take (u - 1) (turned xs (at + 1))) j d ≡ get_or (drop 1 (take u (turned xs f))) j d =
-          λ p v w. grind (arith, getD_turned xs f (1 + j) p d, getD_turned xs (at + 1) j p d) in
+      λ p v w. grind (arith, getD_turned xs f (1 + j) p d, getD_turned xs (at + 1) j p d) in
       ⊎_elim
       (λ (b : f + (j + 1) < length xs). same (f + (j + 1)) (grind arith) (grind arith))
       (λ (b : length xs ≤ f + (j + 1)). same (f + (j + 1) - length xs) (grind arith) (grind arith))

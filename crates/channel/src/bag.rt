@@ -38,11 +38,9 @@ impl Bag {
 
     // The position of the message that the pick gives, if any waits.
     fn position_of(&self, pick: u32) -> Option<usize>
-        ensures {
-            MatchOption result
-                (waiting self.now ≡ [])
-                (λ i. (i ≡ position self.now pick) × (i < length (waiting self.now)))
-        }
+        ensures { MatchOption result
+            (waiting self.now ≡ [])
+            (λ i. (i ≡ position self.now pick) × (i < length (waiting self.now))) }
     {
         (pick as usize).checked_rem(self.ring.len())
     }

@@ -8,7 +8,8 @@ use super::channel::Full;
 use terms::message::Message;
 
 // A ring in the places of the memory: count messages wait, the first at place first, or at 0 if first is past the places.
-// kept: a Vec with a count beside it, since a channel allocates nothing and hands its host's memory back as long as it was.
+// kept: a Vec with a count beside it, and no VecDeque, since a channel allocates nothing and hands its host's memory back as long as it was.
+// kept: a ghost field and no model, since the laws of both channels say of every ring that no more messages wait than there are places, and a model's value does not carry that.
 #[derive(Drop)]
 pub(crate) struct Ring {
     memory: Vec<Message>,
@@ -76,6 +77,7 @@ impl Ring {
     }
 
     // The message before which i others wait.
+    // kept: the bound on i stands in each contract that takes it, since a position is good only until the ring changes.
     pub(crate) fn message_at(&self, i: usize) -> Message
         requires { i < length (in_order self.now) }
         ensures { StandsAt (in_order self.now) i result }
@@ -107,11 +109,9 @@ impl Ring {
 
     // The first message leaves, if any waits.
     pub(crate) fn pop_front(&mut self) -> Option<Message>
-        ensures {
-            MatchOption result
-                ((in_order self.old ≡ []) × (self.new ≡ self.old))
-                (λ m. (in_order self.old ≡ m ∷ in_order self.new) × Kept self.old.memory self.new.memory)
-        }
+        ensures { MatchOption result
+            ((in_order self.old ≡ []) × (self.new ≡ self.old))
+            (λ m. (in_order self.old ≡ m ∷ in_order self.new) × Kept self.old.memory self.new.memory) }
     {
         if self.len() == 0 {
             return None;
