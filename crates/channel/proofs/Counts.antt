@@ -1,54 +1,55 @@
 -- A bag is how many of each message it holds.
-use Rattle.std.proofs.Common.{◌≡◌, ℕ, suc, ◌+◌, ◌-◌, ◌<◌, Bool, true, false, cond, eqb, List, [], ◌∷◌, length, get_or, take, set, Some, None, Decides, Option, sym, refl, ap, ⊎_elim, arith}
+use Rattle.std.proofs.Common.{◌≡◌, ℕ, suc, ◌+◌, ◌<◌, Bool, true, false, cond, List, [], ◌∷◌, length, get_or, Some, None, Decides, Option, sym, refl, ap, ⊎_elim, arith}
+use Rattle.std.specs.Prelude.{nat_eq}
+use Rattle.std.specs.List.{swap_remove}
+use Rattle.std.specs.Option.{option_eq}
 use Rattle.std.proofs.lemmas.List.Sorted.{IsPermutation-refl, IsPermutation-sym, IsPermutation-trans, IsPermutation-cons, sum_by-IsPermutation}
 use Rattle.std.proofs.lemmas.List.Sums.{sum_by-cons}
 use Rattle.std.proofs.lemmas.Bool.{cases_Bool}
 use Rattle.std.proofs.lemmas.Bool.Decides.{Decides-and, Decides-eqb, Decides-like}
-use Rattle.terms.specs.declared.message.Message.{Message}
+use denote.Enum.Bare.{same_true, true_same}
+use Rattle.terms.specs.contracts.message.Kind.{the_type as kind-type}
+use Rattle.terms.specs.contracts.message.KindPartialEq.TheImpl as kind-eq
+use Rattle.terms.specs.contracts.word.PlacePartialEq.TheImpl as place-eq
+use Rattle.terms.specs.contracts.word.Side.{the_type as side-type}
+use Rattle.terms.specs.contracts.word.SidePartialEq.TheImpl as side-eq
+use Rattle.terms.specs.contracts.word.WordPartialEq.TheImpl as word-eq
 use Rattle.terms.specs.declared.message.Kind.{Kind}
-use Rattle.terms.specs.declared.message.Kind.TheVariants.{Phase, Echo}
-use Rattle.terms.specs.declared.word.Side.{Side}
-use Rattle.terms.specs.declared.word.Side.TheVariants.{Zero, One}
-use Rattle.terms.specs.declared.word.Word.{Word}
+use Rattle.terms.specs.declared.message.Message.{Message}
 use Rattle.terms.specs.declared.word.Place.{Place}
-use Rattle.channel.specs.Counts.{same_kind, same_side, same_option, same_word, same_place, same_message, how_many, BagsAreCounts}
+use Rattle.terms.specs.declared.word.Side.{Side}
+use Rattle.terms.specs.declared.word.Word.{Word}
+use Rattle.channel.specs.Counts.{same_message, how_many, BagsAreCounts}
 use Rattle.channel.specs.Meaning.{SameBag}
-use Rattle.channel.specs.Positions.{last_or}
 use Rattle.channel.specs.MeaningLemmas.{stands_at, one_less}
 
-decides_kind : (x y : Kind) → Decides (same_kind x y) (x ≡ y)
-decides_kind Phase Phase = (λ _. refl, λ _. refl)
-decides_kind Phase Echo = (λ e. cc, λ e. cc)
-decides_kind Echo Phase = (λ e. cc, λ e. cc)
-decides_kind Echo Echo = (λ _. refl, λ _. refl)
+decides_kind : (x y : Kind) → Decides (kind-eq.ghosts.eq x y) (x ≡ y)
+decides_kind x y = (same_true kind-type tt x y, true_same kind-type x y)
 
-decides_side : (x y : Side) → Decides (same_side x y) (x ≡ y)
-decides_side Zero Zero = (λ _. refl, λ _. refl)
-decides_side Zero One = (λ e. cc, λ e. cc)
-decides_side One Zero = (λ e. cc, λ e. cc)
-decides_side One One = (λ _. refl, λ _. refl)
+decides_side : (x y : Side) → Decides (side-eq.ghosts.eq x y) (x ≡ y)
+decides_side x y = (same_true side-type tt x y, true_same side-type x y)
 
-decides_option : {X : Type 0} (same : X → X → Bool) → ((x y : X) → Decides (same x y) (x ≡ y)) → (a b : Option X) → Decides (same_option same a b) (a ≡ b)
+decides_option : {X : Type 0} (same : X → X → Bool) → ((x y : X) → Decides (same x y) (x ≡ y)) → (a b : Option X) → Decides (option_eq same a b) (a ≡ b)
 decides_option same dec None None = (λ _. refl, λ _. refl)
 decides_option same dec None (Some y) = (λ e. cc, λ e. cc)
 decides_option same dec (Some x) None = (λ e. cc, λ e. cc)
 decides_option same dec (Some x) (Some y) = (λ e. ap Some ((dec x y).0 e), λ e. (dec x y).1 (cc))
 
-decides_word : (v w : Word) → Decides (same_word v w) (v ≡ w)
+decides_word : (v w : Word) → Decides (word-eq.ghosts.eq v w) (v ≡ w)
 decides_word v w =
-    Decides-like _ (λ h. λ i. record { group = h.0 i; name = h.1 i }) (λ e. (ap (λ (u : Word). u.group) e, ap (λ (u : Word). u.name) e))
-    (Decides-and _ _ (decides_option same_side decides_side v.group w.group) (decides_option eqb Decides-eqb v.name w.name))
+    Decides-like _ (λ h. λ i. record { group = h.0 i; name = h.1 i }) (λ e. (cc, cc))
+    (Decides-and _ _ (decides_option side-eq.ghosts.eq decides_side v.group w.group) (decides_option nat_eq Decides-eqb v.name w.name))
 
-decides_place : (p q : Place) → Decides (same_place p q) (p ≡ q)
+decides_place : (p q : Place) → Decides (place-eq.ghosts.eq p q) (p ≡ q)
 decides_place p q =
     Decides-like _ (λ h. λ i. record { selector = h.0 i; round = h.1.0 i; phase = h.1.1 i })
-    (λ e. (ap (λ (u : Place). u.selector) e, (ap (λ (u : Place). u.round) e, ap (λ (u : Place). u.phase) e)))
+    (λ e. (cc, (cc, cc)))
     (Decides-and _ _ (Decides-eqb _ _) (Decides-and _ _ (Decides-eqb _ _) (Decides-eqb _ _)))
 
 decides_message : (m n : Message) → Decides (same_message m n) (m ≡ n)
 decides_message m n =
     Decides-like _ (λ h. λ i. record { kind = h.0 i; sender = h.1.0 i; receiver = h.1.1.0 i; place = h.1.1.1.0 i; word = h.1.1.1.1 i })
-    (λ e. (ap (λ (u : Message). u.kind) e, (ap (λ (u : Message). u.sender) e, (ap (λ (u : Message). u.receiver) e, (ap (λ (u : Message). u.place) e, ap (λ (u : Message). u.word) e)))))
+    (λ e. (cc, (cc, (cc, (cc, cc)))))
     (Decides-and _ _ (decides_kind _ _) (Decides-and _ _ (Decides-eqb _ _) (Decides-and _ _ (Decides-eqb _ _) (Decides-and _ _ (decides_place _ _) (decides_word _ _)))))
 
 -- what n adds to the number of m
@@ -85,7 +86,7 @@ same_counts [] (y ∷ ys) h = absurd (omega (arith, h y, own_counts y ys))
 same_counts (x ∷ xs) ys h =
     let f = found x ys (omega (arith, h x, own_counts x xs)) in
     let i = f.0 in
-    let rest : List Message = take (length ys - 1) (set ys i (last_or x ys)) in
+    let rest : List Message = swap_remove ys i x in
     let out : SameBag ys (x ∷ rest) = one_less ys i x f.1 (stands_at ys i x f.1 f.2) in
     let left : (m : Message) → how_many m xs ≡ how_many m rest = λ m. omega (arith, h m, as_often ys (x ∷ rest) out m, many_cons m x xs, many_cons m x rest) in
     IsPermutation-trans _ _ _ (IsPermutation-cons x xs rest (same_counts xs rest left)) (IsPermutation-sym _ _ out)

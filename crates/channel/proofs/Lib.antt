@@ -1,2 +1,4 @@
 pub mod Counts
+pub mod RingChanges
+pub mod Rings
 pub mod Sends

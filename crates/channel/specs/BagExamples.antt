@@ -2,7 +2,7 @@
 use Rattle.std.specs.Prelude.{◌≡◌, ◌<◌, ◌≤◌, [], ◌∷◌, length}
 use Rattle.terms.specs.declared.message.Message.{Message}
 use Rattle.terms.specs.declared.message.Mark.TheVariants.{Gone, Copied}
-use Rattle.channel.specs.declared.bag.state.Bag.{Bag}
+use Rattle.channel.specs.declared.bag.Bag.{Bag}
 use Rattle.channel.specs.BagOrder.{waiting, places_of, position, mark_of, MovesLast}
 
 pub record BagsHold : Type 0 where

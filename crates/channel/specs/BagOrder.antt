@@ -1,22 +1,20 @@
--- The order in which the messages of a bag lie, and what a bag does to it: the pick decides which message is given and whether it stays.
-use Rattle.std.specs.Prelude.{◌≡◌, ℕ, ◌-◌, ◌%◌, ◌^◌, ◌<◌, cond, ◌&&◌, List, [], ◌∷◌, ◌++◌, length, take, Some, None, vec_items, Option, nat_le, nat_lt, slice_set}
+-- The order in which the messages of a bag lie, and what a fetch does to it: the pick decides which message is given and whether it stays.
+use Rattle.std.specs.Prelude.{◌≡◌, ℕ, ◌%◌, ◌^◌, ◌<◌, cond, ◌&&◌, List, [], length, Some, None, Option, nat_le, nat_lt}
+use Rattle.std.specs.List.{swap_remove}
 use Rattle.terms.specs.declared.message.Message.{Message}
 use Rattle.terms.specs.declared.message.Mark.{Mark}
 use Rattle.terms.specs.declared.message.Mark.TheVariants.{Gone, Copied}
-use Rattle.channel.specs.Memory.{places_in, Kept}
-use Rattle.channel.specs.Positions.{StandsAt, last_or}
-use Rattle.channel.specs.declared.bag.state.Bag.{Bag}
+use Rattle.channel.specs.Memory.{places_in}
+use Rattle.channel.specs.Order.{in_order, Becomes}
+use Rattle.channel.specs.Positions.{StandsAt}
+use Rattle.channel.specs.declared.bag.Bag.{Bag}
 
 -- The messages that wait, by their positions.
 abbrev pub waiting : Bag → List Message
-waiting c = take c.count (vec_items c.memory)
+waiting c = in_order c.ring
 
 abbrev pub places_of : Bag → ℕ
-places_of c = places_in c.memory
-
--- The message waits at the end.
-abbrev pub Joins : Bag → Message → Bag → Type 0
-Joins c m d = (waiting d ≡ waiting c ++ m ∷ []) × Kept c.memory d.memory
+places_of c = places_in c.ring.memory
 
 -- The pick modulo the number that wait.
 abbrev pub position : Bag → ℕ → ℕ
@@ -28,7 +26,7 @@ mark_of c pick = cond (nat_le (2 ^ 31) pick && nat_lt (length (waiting c)) (plac
 
 -- The last moves to position i, where m stood, and the end is cut off.
 abbrev pub MovesLast : Bag → ℕ → Message → Bag → Type 0
-MovesLast c i m d = (waiting d ≡ take (length (waiting c) - 1) (slice_set (waiting c) i (last_or m (waiting c)))) × Kept c.memory d.memory
+MovesLast c i m d = Becomes c.ring (swap_remove (waiting c) i m) d.ring
 
 -- What giving m from position i with this mark leaves.
 abbrev pub LeavesOrder : Bag → ℕ → Message → Mark → Bag → Type 0

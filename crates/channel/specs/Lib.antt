@@ -1,12 +1,12 @@
 pub mod BagExamples
 pub mod BagOrder
+pub mod BagOrderLemmas
 pub mod Counts
 pub mod LineOrder
 pub mod Meaning
+pub mod MeaningLemmas
 pub mod Memory
+pub mod Order
+pub mod OrderLemmas
 pub mod Positions
 pub mod Sends
-pub mod MeaningLemmas
-pub mod BagOrderLemmas
-pub mod LineOrderLemmas
-pub mod Rings

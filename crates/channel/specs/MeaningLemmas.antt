@@ -1,14 +1,13 @@
 -- What a change of the list of waiting messages is to the bag.
-use Rattle.std.specs.Prelude.{◌≡◌, ℕ, suc, ◌+◌, ◌-◌, ◌<◌, List, [], ◌∷◌, ◌++◌, length, get_or, take, drop, set, slice_index_or, slice_set}
-use Rattle.std.proofs.Common.{sym, ap, subst, ◌∙◌, arith, length-set}
-use Rattle.std.specs.List.{ContainsAt as Has, swap}
-use Rattle.std.proofs.lemmas.List.{take-append-drop, drop_more, drop_all, set_split, get_or_at, length-take-le}
-use Rattle.std.proofs.lemmas.List.Edits.{swap_is}
+use Rattle.std.specs.Prelude.{◌≡◌, ℕ, ◌+◌, ◌<◌, List, [], ◌∷◌, ◌++◌, length, get_or, take, drop, slice_index_or}
+use Rattle.std.proofs.Common.{sym, ap, subst, ◌∙◌, arith}
+use Rattle.std.specs.List.{ContainsAt as Has, swap_remove}
+use Rattle.std.proofs.lemmas.List.{take-append-drop, drop_more, get_or_at, length-take-le}
 use Rattle.std.proofs.ByRecursion.{has_get_or, has_append_right}
-use Rattle.std.proofs.lemmas.List.Sorted.{IsPermutation-refl, IsPermutation-sym, IsPermutation-trans, IsPermutation-swap, IsPermutation-to_front}
+use Rattle.std.proofs.lemmas.List.Sorted.{IsPermutation-refl, IsPermutation-sym, IsPermutation-to_front, IsPermutation-swap_remove}
 use Rattle.terms.specs.declared.message.Message.{Message}
 use Rattle.channel.specs.Meaning.{SameBag}
-use Rattle.channel.specs.Positions.{StandsAt, last_or}
+use Rattle.channel.specs.Positions.{StandsAt}
 
 pub same_bag : (xs ys : List Message) → ys ≡ xs → SameBag xs ys
 same_bag xs ys e = subst (SameBag xs) (sym e) (IsPermutation-refl xs)
@@ -19,23 +18,14 @@ one_more xs ys m e = subst (SameBag (m ∷ xs)) (sym e) (IsPermutation-sym _ _ (
 
 module _ (xs : List Message) (i : ℕ) (m : Message) where
   pub stands_at : i < length xs → slice_index_or xs i m ≡ m → StandsAt xs i m
-  stands_at h e = sym (take-append-drop i xs) ∙ ap (λ (r : List Message). take i xs ++ r) (drop_more xs i m h ∙ ap (λ (x : Message). x ∷ drop (i + 1) xs) e)
+  stands_at h e = let whole = take-append-drop i xs in let rest = drop_more xs i m h in cc
 
   pub has_standing : StandsAt xs i m → Has xs m
-  has_standing s = subst (λ (l : List Message). Has l m) (sym s) (has_append_right (take i xs) _ m (has_get_or (m ∷ drop (i + 1) xs) 0 m (omega arith)))
+  has_standing s = rw s (has_append_right (take i xs) _ m (has_get_or (m ∷ drop (i + 1) xs) 0 m (omega arith)))
 
-  getD_standing : i < length xs → StandsAt xs i m → slice_index_or xs i m ≡ m
+  pub getD_standing : i < length xs → StandsAt xs i m → slice_index_or xs i m ≡ m
   getD_standing h s = ap (λ (l : List Message). get_or l i m) s ∙ get_or_at (take i xs) m (drop (i + 1) xs) m i (length-take-le i xs (omega arith))
 
   -- the message at position i leaves: the last moves there, and the end is cut off
-  pub one_less : i < length xs → StandsAt xs i m → SameBag xs (m ∷ take (length xs - 1) (slice_set xs i (last_or m xs)))
-  one_less h s =
-      let n = length xs - 1 in
-      let moved : List Message = set xs i (last_or m xs) in
-      let len = length-set xs i (last_or m xs) in
-      let b = getD_standing h s in
-      let is = set_split moved n m (omega arith) in
-      let end : drop (suc n) moved ≡ [] = drop_all (suc n) moved (omega arith) in
-      let ex = swap_is xs i n m h (omega arith) in
-      let whole : take n moved ++ m ∷ [] ≡ swap xs i n = cc in
-      IsPermutation-trans _ _ _ (IsPermutation-swap xs _ i n h (omega arith) whole) (IsPermutation-to_front (take n moved) m)
+  pub one_less : i < length xs → StandsAt xs i m → SameBag xs (m ∷ swap_remove xs i m)
+  one_less h s = IsPermutation-swap_remove xs i m h (sym (getD_standing h s))

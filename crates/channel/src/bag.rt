@@ -1,128 +1,55 @@
 // The bag: the pick decides which message is given, and whether it stays.
-ghost use Rattle.std.specs.Prelude.{◌≡◌, ◌-◌, ◌<◌, ◌≤◌, min, [], ◌∷◌, length, take, Some, None, slice_set};
-ghost use Rattle.std.proofs.Common.{ap, sym, subst, arith};
-ghost use Rattle.channel.specs.BagExamples.{BagsHold};
-ghost use Rattle.channel.specs.BagOrder.{waiting, places_of, Joins, position, mark_of, MovesLast, GivesAtPick};
-ghost use Rattle.channel.specs.Memory.{places_in, Kept};
-ghost use Rattle.channel.specs.Positions.{StandsAt, last_or};
-ghost use Rattle.channel.specs.MeaningLemmas.{one_more, same_bag, one_less, has_standing};
-ghost use Rattle.std.proofs.lemmas.Nat.{mod_below};
-ghost use Rattle.terms.specs.declared.message.Mark.TheVariants.{Gone, Copied};
-ghost use Rattle.channel.specs.Meaning.{SameBag};
-ghost use Rattle.channel.specs.BagOrderLemmas.{length_waiting, copied_if_free};
+ghost use Rattle.std.specs.Prelude.{◌≡◌, ◌<◌, [], length, MatchOption};
+ghost use Rattle.channel.specs.Memory.{places_in};
 
-mod state;
-
-pub use self::state::Bag;
-use super::channel::Channel;
-use super::memory::count_places_in;
+use super::channel::{Channel, Full};
+use super::ring::Ring;
 use terms::message::{Mark, Message};
 
+// The messages that wait, by their positions.
+#[derive(Drop)]
+pub struct Bag {
+    ring: Ring,
+}
+
 impl Bag {
+    ghost use Rattle.channel.specs.BagExamples.{BagsHold};
+    ghost use Rattle.channel.specs.BagOrder.{waiting, places_of, position, mark_of};
+
     // Nothing waits in a new bag; its places are those of the memory.
     pub fn new(memory: Vec<Message>) -> Bag
         ensures empty { waiting result ≡ [] }
         ensures places { places_of result ≡ places_in memory }
-        ensures memory { result.memory ≡ memory }
+        ensures memory { result.ring.memory ≡ memory }
         ensures examples { BagsHold }
     {
-        Bag { memory, count: 0 }
+        Bag {
+            ring: Ring::new(memory),
+        }
     }
 
     // Gives the memory back.
     pub fn into_memory(self) -> Vec<Message>
-        ensures { result ≡ self.memory }
+        ensures { result ≡ self.ring.memory }
     {
-        let Bag { memory, count: _ } = self;
-        memory
-    }
-}
-
-impl Bag {
-    // How many messages wait.
-    fn len(&self) -> usize
-        ensures waiting { result ≡ length (waiting self.now) }
-        ensures count { result ≡ self.now.count }
-    {
-        self.count
+        let Bag { ring } = self;
+        ring.into_memory()
     }
 
-    // The message at position i.
-    fn message_at(&self, i: usize) -> Message
-        requires { i < self.now.count }
-        ensures { StandsAt (waiting self.now) i result }
+    // The position of the message that the pick gives, if any waits.
+    fn position_of(&self, pick: u32) -> Option<usize>
+        ensures { MatchOption result
+            (waiting self.now ≡ [])
+            (λ i. (i ≡ position self.now pick) × (i < length (waiting self.now))) }
     {
-        self.memory[i]
-    }
-
-    // The last message, or m if nothing waits.
-    fn last_or(&self, m: Message) -> Message
-        ensures { result ≡ last_or m (waiting self.now) }
-    {
-        if self.count == 0 {
-            m
-        } else {
-            self.memory[self.count - 1]
-        }
-    }
-
-    // The message waits at the end.
-    fn put_last(&mut self, m: Message)
-        requires { self.old.count < places_of self.old }
-        ensures { Joins self.old m self.new }
-    {
-        let place = self.count;
-        self.memory[place] = m;
-        self.count += 1;
-    }
-
-    // Writes m over the message at position i.
-    fn put_at(&mut self, i: usize, m: Message)
-        requires { i < self.old.count }
-        ensures waiting { waiting self.new ≡ slice_set (waiting self.old) i m }
-        ensures count { self.new.count ≡ self.old.count }
-        ensures memory { Kept self.old.memory self.new.memory }
-    {
-        self.memory[i] = m;
-    }
-
-    // Only the first n messages go on waiting.
-    fn cut_to(&mut self, n: usize)
-        requires { n ≤ self.old.count }
-        ensures waiting { waiting self.new ≡ take n (waiting self.old) }
-        ensures memory { Kept self.old.memory self.new.memory }
-    {
-        self.count = n;
-    }
-
-    // The message at position i leaves: the last moves there, and the end is cut off.
-    fn take_at(&mut self, i: usize) -> Message
-        requires { i < self.old.count }
-        ensures message { StandsAt (waiting self.old) i result }
-        ensures left { MovesLast self.old i result self.new }
-    {
-        let n = self.len() - 1;
-        let m = self.message_at(i);
-        let last = self.last_or(m);
-        self.put_at(i, last);
-        self.cut_to(n);
-        m
-    }
-
-    // The position of the message that the pick gives.
-    fn position_of(&self, pick: u32) -> usize
-        requires { 0 < self.now.count }
-        ensures position { result ≡ position self.now pick }
-        ensures within { result < self.now.count }
-    {
-        pick as usize % self.len()
+        (pick as usize).checked_rem(self.ring.len())
     }
 
     // What is said of the message that the pick gives.
     fn mark_of(&self, pick: u32) -> Mark
         ensures { result ≡ mark_of self.now pick }
     {
-        if pick >= 0x8000_0000 && self.len() < count_places_in(&self.memory) {
+        if pick >= 0x8000_0000 && self.ring.len() < self.ring.places() {
             Mark::Copied
         } else {
             Mark::Gone
@@ -131,17 +58,28 @@ impl Bag {
 }
 
 impl Channel for Bag {
+    ghost use Rattle.std.specs.Prelude.{min, ◌∷◌, Some, None};
+    ghost use Rattle.std.proofs.Common.{ap, sym, subst};
+    ghost use Rattle.std.proofs.lemmas.Nat.{mod_below};
+    ghost use Rattle.terms.specs.declared.message.Mark.TheVariants.{Gone, Copied};
+    ghost use Rattle.channel.specs.BagOrder.{waiting, places_of, position, GivesAtPick};
+    ghost use Rattle.channel.specs.BagOrderLemmas.{copied_if_free};
+    ghost use Rattle.channel.specs.Meaning.{SameBag};
+    ghost use Rattle.channel.specs.MeaningLemmas.{same_bag, one_less, has_standing};
+    ghost use Rattle.channel.specs.Order.{Joins};
+    ghost use Rattle.channel.specs.OrderLemmas.{fits, joins_bag};
+
     ghost bag = { waiting };
 
     ghost places = { places_of };
 
-    ghost sends = { Joins };
+    ghost sends = { λ c m d. Joins c.ring m d.ring };
 
     ghost fetches = { GivesAtPick };
 
-    ghost bounded = { λ c. omega (arith, length_waiting c) };
+    ghost bounded = { λ c. fits c.ring };
 
-    ghost gains = { λ c m d s. (one_more _ _ m s.0, ap (min 65535) s.1.0) };
+    ghost gains = { λ c m d s. joins_bag c.ring m d.ring s };
 
     ghost gives = { λ c pick.
         elim [
@@ -153,30 +91,23 @@ impl Channel for Bag {
               (s.0, subst (λ w. SameBag (waiting c) (m ∷ w)) (sym s.3.0) l, ap (min 65535) s.3.1.0)
         ] };
 
-    fn send(&mut self, m: Message) -> bool {
-        if self.len() == count_places_in(&self.memory) {
-            return false;
-        }
-        self.put_last(m);
-        true
+    fn send(&mut self, m: Message) -> Result<(), Full> {
+        self.ring.push_back(m)
     }
 
     fn fetch(&mut self, pick: u32) -> Option<(Message, Mark)> {
-        if self.len() == 0 {
-            return None;
-        }
-        let i = self.position_of(pick);
+        let i = self.position_of(pick)?;
         match self.mark_of(pick) {
-            Mark::Copied => Some((self.message_at(i), Mark::Copied)),
-            Mark::Gone => Some((self.take_at(i), Mark::Gone)),
+            Mark::Copied => Some((self.ring.message_at(i), Mark::Copied)),
+            Mark::Gone => Some((self.ring.swap_remove(i), Mark::Gone)),
         }
     }
 
     fn count_waiting(&self) -> usize {
-        self.len()
+        self.ring.len()
     }
 
     fn count_places(&self) -> usize {
-        count_places_in(&self.memory)
+        self.ring.places()
     }
 }

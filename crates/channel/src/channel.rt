@@ -1,11 +1,29 @@
 // What a channel is: a bag of waiting messages with a fixed number of places.
-ghost use Rattle.std.specs.Prelude.{◌≡◌, ℕ, ◌+◌, ◌<◌, ◌≤◌, true, false, List, ◌∷◌, length, Option};
+ghost use Rattle.std.specs.Prelude.{◌≡◌, ℕ, ◌+◌, ◌<◌, ◌≤◌, List, ◌∷◌, length, Option, IsOk, IsErr};
 ghost use Rattle.terms.specs.declared.message.Message.{Message};
 ghost use Rattle.terms.specs.declared.message.Mark.{Mark};
 ghost use Rattle.channel.specs.Counts.{BagsAreCounts};
 ghost use Rattle.channel.specs.Meaning.{SameBag, Gives};
 
+use std::error::Error;
+use std::fmt;
 use terms::message::{Mark, Message};
+
+// Why a message was refused: all places are taken.
+#[derive(Clone, Copy, Debug, PartialEq, Eq)]
+pub struct Full;
+
+impl fmt::Display for Full {
+    ghost use Rattle.std.specs.Prelude.{Some, codes};
+
+    ghost output = { λ _. Some (codes "all places are taken") };
+
+    fn fmt<W: fmt::Write>(&self, f: &mut fmt::Formatter<W>) -> fmt::Result {
+        f.write_str("all places are taken")
+    }
+}
+
+impl Error for Full {}
 
 // What is promised of every channel. Whoever supplies one gives the ghost members and shows the laws.
 pub trait Channel {
@@ -22,9 +40,9 @@ pub trait Channel {
     ghost fetches: { Self → ℕ → Option (Message × Mark) → Self → Type 0 };
 
     // Refused exactly when all places are taken, and then nothing changes; otherwise the bag gains the message.
-    fn send(&mut self, m: Message) -> bool
-        ensures refused { places self.old ≤ length (bag self.old) → (result ≡ false) × (self.new ≡ self.old) }
-        ensures accepted { length (bag self.old) < places self.old → (result ≡ true) × sends self.old m self.new };
+    fn send(&mut self, m: Message) -> Result<(), Full>
+        ensures refused { places self.old ≤ length (bag self.old) → IsErr result × (self.new ≡ self.old) }
+        ensures accepted { length (bag self.old) < places self.old → IsOk result × sends self.old m self.new };
 
     // None exactly when nothing waits; otherwise a waiting message, gone or copied.
     fn fetch(&mut self, pick: u32) -> Option<(Message, Mark)>

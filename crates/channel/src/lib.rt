@@ -4,4 +4,4 @@
 pub mod bag;
 pub mod channel;
 pub mod line;
-mod memory;
+mod ring;

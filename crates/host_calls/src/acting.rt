@@ -64,7 +64,7 @@ pub fn post<C: Channel>(
 ) -> io::Result<()> {
     print!(rt; "post ")?;
     write_message(rt, m)?;
-    if park.post(m) {
+    if park.post(m).is_ok() {
         println!(rt; ": accepted")
     } else {
         println!(rt; ": refused")

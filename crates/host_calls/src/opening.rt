@@ -142,7 +142,7 @@ fn try_opening(rt: &HostRuntime, heap: Global, opening: Opening) -> anyhow::Resu
     print!(rt; "open {n} controllers, {cells} cells, {places} places, {waiting} waiting: ")?;
     let mut channel = Line::new(vec![in heap; blank_message(); places]?);
     for _ in 0..waiting {
-        let _ = channel.send(blank_message());
+        channel.send(blank_message())?;
     }
     let cells = vec![in heap; Cell::Holds(FILLING); cells]?;
     match open(

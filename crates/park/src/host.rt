@@ -5,7 +5,7 @@ ghost use Rattle.park.specs.States.{view};
 
 use super::controller::Stage;
 use super::park::Park;
-use channel::channel::Channel;
+use channel::channel::{Channel, Full};
 use coins::Coins;
 use permit::desk::PermitStage;
 use terms::answer::Answer;
@@ -39,8 +39,8 @@ impl<C: Channel, K: Coins> Park<C, K> {
         self.cells.as_slice()
     }
 
-    // For a host that carries messages itself: puts one into the channel; false if all places are taken.
-    pub fn post(&mut self, m: Message) -> bool
+    // For a host that carries messages itself: puts one into the channel; refused if all places are taken.
+    pub fn post(&mut self, m: Message) -> Result<(), Full>
         ensures { Posts C.Channel (view self.old) m result (view self.new) }
     {
         self.channel.send(m)

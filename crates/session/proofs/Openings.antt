@@ -1,7 +1,7 @@
 -- An opening of a session, by the opening of its park.
 use Rattle.std.proofs.Common.{◌≡◌, ℕ, false, is_some, Some, None, Ok, Err, Option, Result, sym, refl, ap, ◌∙◌, subst, true≢false}
 use Rattle.std.specs.Global.{Vec}
-use Rattle.channel.specs.declared.line.state.Line.{Line}
+use Rattle.channel.specs.declared.line.Line.{Line}
 use Rattle.coins.specs.declared.seeded.Seeded.{Seeded}
 use Rattle.park.specs.Opening.{OpensUnless}
 use Rattle.park.specs.declared.park.NotOpened.{NotOpened}

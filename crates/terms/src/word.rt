@@ -8,14 +8,14 @@ pub enum Side {
 }
 
 // A group with a name; either is blank where it is None.
-#[derive(Clone, Copy)]
+#[derive(Clone, Copy, PartialEq, Eq)]
 pub struct Word {
     pub group: Option<Side>,
     pub name: Option<u8>,
 }
 
 // Where a controller is on its way: selector 1 to 16, round 1 to 16, phase 1 to 2.
-#[derive(Clone, Copy)]
+#[derive(Clone, Copy, PartialEq, Eq)]
 pub struct Place {
     pub selector: u8,
     pub round: u8,
@@ -23,7 +23,7 @@ pub struct Place {
 }
 
 // One cell of a page. A word of two blanks is not empty.
-#[derive(Clone, Copy)]
+#[derive(Clone, Copy, PartialEq, Eq)]
 pub enum Cell {
     Empty,
     Holds(Word),

@@ -1,0 +1,11 @@
+use Rattle.std.proofs.Common.{refl, arith}
+use Rattle.std.proofs.lemmas.List.{drop-set-lt}
+use Rattle.channel.proofs.RingChanges.{written}
+use Rattle.channel.proofs.ring.Ring.put_at.Goals as goal
+
+pub returns : goal.returns
+returns c =
+    let s = c.args.self.now in
+    let p = c.place_of-place.ensures in
+    let at = c.place_of-place.result in
+    (written s c.args.i at c.args.m p.place c.requires p.within, (refl, drop-set-lt 65535 s.memory.items at c.args.m (omega arith)))
