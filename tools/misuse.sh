@@ -27,18 +27,18 @@ try_crate() {
     echo "$1: terms permit" >>"$work/crates.txt"
     {
         printf '#![tactic(auto)]\n\n'
-        printf 'use permit::%s;\n' acts::Returned desk::Desk held::HeldPermit loaded::LoadedPermit
+        printf 'use permit::%s;\n' acts::Returned desk::Desk permit::HeldPermit permit::LoadedPermit
         cat
     } >"$work/crates/$1/src/lib.rt"
     (cd "$work/crates/$1" && rt check) >"$work/said" 2>&1
 }
 
-# refused NAME ERROR WHAT: the check refuses the crate, and its only error is ERROR, in the crate itself.
+# refused NAME ERROR WHAT [COUNT]: the check refuses the crate with COUNT errors (1 where none is given), and one is ERROR, in the crate itself.
 refused() {
     local status=0
     try_crate "$1" || status=$?
     [ "$status" -eq 1 ] || fail "$3: the check ended with status $status, not 1"
-    [ "$(grep -c 'error\[' "$work/said")" -eq 1 ] || fail "$3: another number of errors than 1"
+    [ "$(grep -c 'error\[' "$work/said")" -eq "${4:-1}" ] || fail "$3: another number of errors than ${4:-1}"
     grep -F "src/lib.rt:" "$work/said" | grep -qF "error$2" || fail "$3: not refused with $2"
     printf 'misuse: %s: refused, as it must be (%s)\n' "$3" "$2"
 }
@@ -60,21 +60,21 @@ pub fn send_off(desk: &mut Desk, permit: LoadedPermit) -> Result<(), Returned<Lo
 }
 END
 
-refused held_lapses '[linear-value-let-go]: `permit` is let go where its block ends, and `HeldPermit` is not `Drop`' \
+refused held_lapses '[linear-value-let-go]: `permit` is let go where its block ends, and `Permit<Held>` is not `Drop`' \
     'letting a held permit lapse' <<'END'
 pub fn lapse(permit: HeldPermit) -> u32 {
     permit.vehicle()
 }
 END
 
-refused loaded_lapses '[linear-value-let-go]: `permit` is let go where its block ends, and `LoadedPermit` is not `Drop`' \
+refused loaded_lapses '[linear-value-let-go]: `permit` is let go where its block ends, and `Permit<Loaded>` is not `Drop`' \
     'letting a loaded permit lapse' <<'END'
 pub fn lapse(permit: LoadedPermit) -> u32 {
     permit.vehicle()
 }
 END
 
-refused loaded_handed_back '[mismatched-types]: expected `HeldPermit`, found `LoadedPermit`' \
+refused loaded_handed_back '[mismatched-types]: expected `Permit<Held>`, found `Permit<Loaded>`' \
     'handing back a loaded permit' <<'END'
 pub fn give_up(desk: &mut Desk, permit: LoadedPermit) -> Result<(), Returned<HeldPermit>> {
     desk.hand_back(permit)
@@ -95,16 +95,16 @@ pub fn copy(permit: &LoadedPermit) -> LoadedPermit {
 }
 END
 
-refused held_forged '[private-field]: field `vehicle` of struct `HeldPermit` is private' \
-    'making a held permit by hand' <<'END'
+refused held_forged '[private-field]: field `vehicle` of struct `Permit` is private' \
+    'making a held permit by hand' 2 <<'END'
 pub fn forge() -> HeldPermit {
-    HeldPermit { vehicle: 7 }
+    HeldPermit { vehicle: 7, state: permit::permit::Held }
 }
 END
 
-refused loaded_forged '[private-field]: field `vehicle` of struct `LoadedPermit` is private' \
-    'making a loaded permit by hand' <<'END'
+refused loaded_forged '[private-field]: field `vehicle` of struct `Permit` is private' \
+    'making a loaded permit by hand' 2 <<'END'
 pub fn forge() -> LoadedPermit {
-    LoadedPermit { vehicle: 7 }
+    LoadedPermit { vehicle: 7, state: permit::permit::Loaded }
 }
 END

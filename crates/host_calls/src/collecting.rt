@@ -1,26 +1,26 @@
 // Answers that are collected.
-use super::acting::{act, open_park};
-use super::spending::{give_up, load_and_dispatch};
-use super::words::{blank_message, stage_word};
+ghost use Rattle.park.specs.States.{view};
+ghost use Rattle.permit.specs.Acts.{HeldAt};
+
+use super::host::Host;
+use super::spending::{Spent, give_up, load_and_dispatch};
+use super::words::places;
 use channel::line::Line;
 use coins::seeded::Seeded;
 use park::collected::Collected;
 use park::park::Park;
-use permit::desk::PermitStage;
+use permit::permit::HeldPermit;
 use promise::act::Act;
 use promise::perform::collect;
-use std::alloc::Global;
 use std::io;
 use terms::refusal::Refusal;
 
-// What collecting told, with the stages of a permit that was given and then spent.
-#[derive(Clone, Copy)]
-pub enum Told {
-    Dispatched(PermitStage, PermitStage, PermitStage),
-    HandedBack(PermitStage, PermitStage),
+// What collecting told, where it was not refused.
+#[derive(Clone, Copy, Debug, PartialEq, Eq)]
+enum Told {
+    Yes(Spent),
     No,
     Undecided,
-    Refused(Refusal),
 }
 
 // Controller 1 calls first and is told yes; controller 2 calls then and is told no.
@@ -41,94 +41,88 @@ const ACTS: [Act; 14] = [
     Act::Step(2),
 ];
 
-pub fn collect_answers(rt: &HostRuntime, heap: Global) -> anyhow::Result<()> {
-    let mut park = open_park(
-        heap,
-        2,
-        7,
-        2048,
-        Line::new(vec![in heap; blank_message(); 4]?),
-    )?;
+pub fn collect_answers(rt: &HostRuntime) -> anyhow::Result<()> {
+    let mut host = Host::open(rt, 2, 2048, Line::new(places(rt, 4)?))?;
     for p in [0, 3, 4294967295, 1, 2] {
-        write_collecting(rt, &mut park, p, false)?;
+        write_collecting(&mut host, p, load_and_dispatch)?;
     }
     for next in ACTS {
-        act(rt, &mut park, next)?;
-        write_collecting(rt, &mut park, 2, false)?;
+        host.act(next)?;
+        write_collecting(&mut host, 2, load_and_dispatch)?;
     }
     for p in [2, 1, 1, 2] {
-        write_collecting(rt, &mut park, p, false)?;
+        write_collecting(&mut host, p, load_and_dispatch)?;
     }
-    act(rt, &mut park, Act::Crash(1))?;
-    act(rt, &mut park, Act::Crash(2))?;
+    host.act(Act::Crash(1))?;
+    host.act(Act::Crash(2))?;
     for p in [1, 2, 3] {
-        write_collecting(rt, &mut park, p, false)?;
+        write_collecting(&mut host, p, load_and_dispatch)?;
     }
-    hand_one_back(rt, heap)
+    hand_one_back(rt)
 }
 
 // A park of one whose controller hands its permit back.
-fn hand_one_back(rt: &HostRuntime, heap: Global) -> anyhow::Result<()> {
-    let mut park = open_park(
-        heap,
-        1,
-        7,
-        1024,
-        Line::new(vec![in heap; blank_message(); 0]?),
-    )?;
+fn hand_one_back(rt: &HostRuntime) -> anyhow::Result<()> {
+    let mut host = Host::open(rt, 1, 1024, Line::new(places(rt, 0)?))?;
     for next in [Act::Call(1), Act::Step(1), Act::Step(1)] {
-        write_collecting(rt, &mut park, 1, true)?;
-        act(rt, &mut park, next)?;
+        write_collecting(&mut host, 1, give_up)?;
+        host.act(next)?;
     }
     for _ in 0..3 {
-        write_collecting(rt, &mut park, 1, true)?;
+        write_collecting(&mut host, 1, give_up)?;
     }
-    act(rt, &mut park, Act::Crash(1))?;
-    write_collecting(rt, &mut park, 1, true)?;
+    host.act(Act::Crash(1))?;
+    write_collecting(&mut host, 1, give_up)?;
     Ok(())
 }
 
-// Controller p collects and spends the permit that it may be given: it hands it back, or loads and dispatches.
-fn collect_and_spend(park: &mut Park<Line, Seeded>, p: u32, hands_back: bool) -> Told {
-    let told = match collect(park, p) {
-        Ok(told) => told,
-        Err(refusal) => return Told::Refused(refusal),
-    };
-    let given = park.permit_stage();
-    match told {
-        Collected::Yes(permit) => {
-            if hands_back {
-                Told::HandedBack(given, give_up(park, permit))
-            } else {
-                let (loaded, dispatched) = load_and_dispatch(park, permit);
-                Told::Dispatched(given, loaded, dispatched)
-            }
-        }
-        Collected::No => Told::No,
-        Collected::Undecided => Told::Undecided,
+// Controller p collects, and a permit that it may be given is spent at once.
+fn collect_and_spend<F: FnOnce(&mut Park<Line, Seeded>, HeldPermit) -> Spent>(
+    park: &mut Park<Line, Seeded>,
+    p: u32,
+    spend: F,
+) -> Result<Told, Refusal>
+    requires { (at : _) (permit : _) → HeldAt (view at.now).desk permit → F.pre spend at permit }
+{
+    match collect(park, p)? {
+        Collected::Yes(permit) => Ok(Told::Yes(spend(park, permit))),
+        Collected::No => Ok(Told::No),
+        Collected::Undecided => Ok(Told::Undecided),
     }
 }
 
-fn write_collecting(
-    rt: &HostRuntime,
-    park: &mut Park<Line, Seeded>,
+fn write_collecting<F: FnOnce(&mut Park<Line, Seeded>, HeldPermit) -> Spent>(
+    host: &mut Host<Line>,
     p: u32,
-    hands_back: bool,
-) -> io::Result<()> {
+    spend: F,
+) -> io::Result<()>
+    requires { (at : _) (permit : _) → HeldAt (view at.now).desk permit → F.pre spend at permit }
+{
+    let rt = host.rt;
     print!(rt; "collect {p}: ")?;
-    match collect_and_spend(park, p, hands_back) {
-        Told::Dispatched(given, loaded, dispatched) => {
-            println!(rt; "yes with a permit, {}", stage_word(given))?;
-            println!(rt; "load: accepted, {}", stage_word(loaded))?;
-            println!(rt; "dispatch: accepted, {}", stage_word(dispatched))?;
-        }
-        Told::HandedBack(given, back) => {
-            println!(rt; "yes with a permit, {}", stage_word(given))?;
-            println!(rt; "hand back: accepted, {}", stage_word(back))?;
-        }
-        Told::No => println!(rt; "no")?,
-        Told::Undecided => println!(rt; "undecided")?,
-        Told::Refused(refusal) => println!(rt; "refused {}", refusal.number())?,
+    match collect_and_spend(&mut host.park, p, spend) {
+        Ok(Told::Yes(spent)) => write_spent(rt, spent)?,
+        Ok(Told::No) => println!(rt; "no")?,
+        Ok(Told::Undecided) => println!(rt; "undecided")?,
+        Err(refusal) => println!(rt; "refused {}", refusal.number())?,
     }
-    println!(rt; "stage: {}", stage_word(park.permit_stage()))
+    println!(rt; "stage: {}", host.park.permit_stage())
+}
+
+fn write_spent(rt: &HostRuntime, spent: Spent) -> io::Result<()> {
+    match spent {
+        Spent::Dispatched {
+            given,
+            loaded,
+            dispatched,
+        } => {
+            println!(rt; "yes with a permit, {given}")?;
+            println!(rt; "load: accepted, {loaded}")?;
+            println!(rt; "dispatch: accepted, {dispatched}")
+        }
+        Spent::HandedBack { given, back } => {
+            println!(rt; "yes with a permit, {given}")?;
+            println!(rt; "hand back: accepted, {back}")
+        }
+    }
 }

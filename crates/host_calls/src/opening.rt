@@ -1,14 +1,12 @@
 // Openings, refused and accepted, and what comes back.
-use super::acting::write_cells;
-use super::words::{FILLING, blank_message};
+use super::host::{VEHICLE, supplies, write_cells};
+use super::words::{blank_message, places};
 use channel::channel::Channel;
 use channel::line::Line;
 use coins::seeded::Seeded;
 use park::park::{NotOpened, Supplies};
 use promise::open::open;
-use std::alloc::Global;
 use std::io;
-use terms::word::Cell;
 
 // How many controllers, cells and places, and how many messages wait.
 #[derive(Clone, Copy)]
@@ -124,42 +122,32 @@ const OPENINGS: [Opening; 17] = [
     },
 ];
 
-pub fn try_openings(rt: &HostRuntime, heap: Global) -> anyhow::Result<()> {
+pub fn try_openings(rt: &HostRuntime) -> anyhow::Result<()> {
     for opening in OPENINGS {
-        try_opening(rt, heap, opening)?;
+        try_opening(rt, opening)?;
     }
     Ok(())
 }
 
 // Tries an opening, closes the park if it is opened, and writes what comes back either way.
-fn try_opening(rt: &HostRuntime, heap: Global, opening: Opening) -> anyhow::Result<()> {
+fn try_opening(rt: &HostRuntime, opening: Opening) -> anyhow::Result<()> {
     let Opening {
         n,
         cells,
-        places,
+        places: count,
         waiting,
     } = opening;
-    print!(rt; "open {n} controllers, {cells} cells, {places} places, {waiting} waiting: ")?;
-    let mut channel = Line::new(vec![in heap; blank_message(); places]?);
+    print!(rt; "open {n} controllers, {cells} cells, {count} places, {waiting} waiting: ")?;
+    let mut channel = Line::new(places(rt, count)?);
     for _ in 0..waiting {
         channel.send(blank_message())?;
     }
-    let cells = vec![in heap; Cell::Holds(FILLING); cells]?;
-    match open(
-        n,
-        7,
-        Supplies {
-            cells,
-            channel,
-            coins: Seeded { seed: 43 },
-        },
-    ) {
+    match open(n, VEHICLE, supplies(rt, cells, channel)?) {
         Ok(park) => {
             println!(rt; "accepted")?;
             write_back(rt, park.close())?;
         }
-        Err(not_opened) => {
-            let NotOpened { refusal, supplies } = not_opened;
+        Err(NotOpened { refusal, supplies }) => {
             println!(rt; "refused {}", refusal.number())?;
             write_back(rt, supplies)?;
         }

@@ -1,10 +1,9 @@
 // Where the words of the controllers lie, and the cells that no controller has.
-use super::acting::{act, open_park, write_cells};
+use super::host::Host;
 use super::opening::write_back;
-use super::words::blank_message;
+use super::words::places;
 use channel::line::Line;
 use promise::act::Act;
-use std::alloc::Global;
 
 const ACTS: [Act; 12] = [
     Act::Call(2),
@@ -21,14 +20,14 @@ const ACTS: [Act; 12] = [
     Act::Deliver(0),
 ];
 
-pub fn show_pages(rt: &HostRuntime, heap: Global) -> anyhow::Result<()> {
-    let channel = Line::new(vec![in heap; blank_message(); 20]?);
-    let mut park = open_park(heap, 3, 7, 3080, channel)?;
-    write_cells(rt, park.cells(), 3072)?;
+pub fn show_pages(rt: &HostRuntime) -> anyhow::Result<()> {
+    let mut host = Host::open(rt, 3, 3080, Line::new(places(rt, 20)?))?;
+    host.write_cells()?;
     for next in ACTS {
-        act(rt, &mut park, next)?;
-        write_cells(rt, park.cells(), 3072)?;
+        host.act(next)?;
+        host.write_cells()?;
     }
+    let Host { rt, park } = host;
     write_back(rt, park.close())?;
     Ok(())
 }

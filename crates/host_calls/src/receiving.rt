@@ -1,12 +1,9 @@
 // Messages that a host hands to one controller.
-use super::acting::{act, fetch, open_park, post, write_cells, write_result};
 use super::carrying::MALFORMED;
-use super::words::{blank_message, message, write_message};
+use super::host::Host;
+use super::words::{message, places};
 use channel::line::Line;
-use coins::seeded::Seeded;
-use park::park::Park;
 use promise::act::Act;
-use std::alloc::Global;
 use std::io;
 use terms::message::Kind;
 
@@ -19,85 +16,65 @@ const TO_2: [u8; 6] = [1, 2, 1, 1, 1, 1];
 
 const TO_3: [u8; 6] = [2, 3, 1, 1, 1, 2];
 
-pub fn receive_messages(rt: &HostRuntime, heap: Global) -> anyhow::Result<()> {
-    let channel = Line::new(vec![in heap; blank_message(); 2]?);
-    let mut park = open_park(heap, 3, 7, 3072, channel)?;
-    act(rt, &mut park, Act::Crash(3))?;
+pub fn receive_messages(rt: &HostRuntime) -> anyhow::Result<()> {
+    let mut host = Host::open(rt, 3, 3072, Line::new(places(rt, 2)?))?;
+    host.act(Act::Crash(3))?;
     for p in [0, 4, 4294967295, 3] {
-        receive_both(rt, &mut park, p, GOOD)?;
-        receive_both(rt, &mut park, p, BAD)?;
+        receive_both(&mut host, p, GOOD)?;
+        receive_both(&mut host, p, BAD)?;
     }
-    receive_malformed(rt, &mut park)?;
-    receive_when_full(rt, &mut park)?;
-    receive_well_formed(rt, &mut park)?;
+    receive_malformed(&mut host)?;
+    receive_when_full(&mut host)?;
+    receive_well_formed(&mut host)?;
     Ok(())
 }
 
 // Malformed messages, and messages for another controller, with places free.
-fn receive_malformed(rt: &HostRuntime, park: &mut Park<Line, Seeded>) -> io::Result<()> {
+fn receive_malformed(host: &mut Host<Line>) -> io::Result<()> {
     for fields in MALFORMED {
-        receive_both(rt, park, 1, fields)?;
+        receive_both(host, 1, fields)?;
     }
-    receive_both(rt, park, 1, TO_2)?;
-    receive_both(rt, park, 1, TO_3)?;
-    write_cells(rt, park.cells(), 3072)?;
-    fetch(rt, park, 0)
+    receive_both(host, 1, TO_2)?;
+    receive_both(host, 1, TO_3)?;
+    host.write_cells()?;
+    host.fetch(0)
 }
 
 // All places are taken.
-fn receive_when_full(rt: &HostRuntime, park: &mut Park<Line, Seeded>) -> io::Result<()> {
-    post(rt, park, message(Kind::Echo, GOOD))?;
-    post(rt, park, message(Kind::Echo, GOOD))?;
+fn receive_when_full(host: &mut Host<Line>) -> io::Result<()> {
+    host.post(message(Kind::Echo, GOOD))?;
+    host.post(message(Kind::Echo, GOOD))?;
     for p in [0, 4, 3, 1] {
-        receive_both(rt, park, p, BAD)?;
-        receive_both(rt, park, p, TO_2)?;
-        receive_both(rt, park, p, GOOD)?;
+        receive_both(host, p, BAD)?;
+        receive_both(host, p, TO_2)?;
+        receive_both(host, p, GOOD)?;
     }
-    write_cells(rt, park.cells(), 3072)?;
+    host.write_cells()?;
     for _ in 0..3 {
-        fetch(rt, park, 0)?;
+        host.fetch(0)?;
     }
     Ok(())
 }
 
 // Keeps the first word and answers with it, and hears what answers a call.
-fn receive_well_formed(rt: &HostRuntime, park: &mut Park<Line, Seeded>) -> io::Result<()> {
-    receive(rt, park, 1, Kind::Phase, GOOD)?;
-    fetch(rt, park, 0)?;
-    receive(rt, park, 1, Kind::Phase, [2, 1, 1, 1, 1, 3])?;
-    fetch(rt, park, 0)?;
-    write_cells(rt, park.cells(), 3072)?;
-    act(rt, park, Act::Call(1))?;
-    act(rt, park, Act::Step(1))?;
-    receive(rt, park, 1, Kind::Echo, GOOD)?;
-    fetch(rt, park, 0)?;
-    fetch(rt, park, 0)?;
-    act(rt, park, Act::Step(1))?;
-    fetch(rt, park, 0)?;
-    fetch(rt, park, 0)?;
-    fetch(rt, park, 0)
+fn receive_well_formed(host: &mut Host<Line>) -> io::Result<()> {
+    host.receive(1, Kind::Phase, GOOD)?;
+    host.fetch(0)?;
+    host.receive(1, Kind::Phase, [2, 1, 1, 1, 1, 3])?;
+    host.fetch(0)?;
+    host.write_cells()?;
+    host.act(Act::Call(1))?;
+    host.act(Act::Step(1))?;
+    host.receive(1, Kind::Echo, GOOD)?;
+    host.fetch(0)?;
+    host.fetch(0)?;
+    host.act(Act::Step(1))?;
+    host.fetch(0)?;
+    host.fetch(0)?;
+    host.fetch(0)
 }
 
-fn receive_both(
-    rt: &HostRuntime,
-    park: &mut Park<Line, Seeded>,
-    p: u32,
-    fields: [u8; 6],
-) -> io::Result<()> {
-    receive(rt, park, p, Kind::Phase, fields)?;
-    receive(rt, park, p, Kind::Echo, fields)
-}
-
-fn receive(
-    rt: &HostRuntime,
-    park: &mut Park<Line, Seeded>,
-    p: u32,
-    kind: Kind,
-    fields: [u8; 6],
-) -> io::Result<()> {
-    let m = message(kind, fields);
-    print!(rt; "receive at {p} ")?;
-    write_message(rt, m)?;
-    print!(rt; ": ")?;
-    write_result(rt, park.receive(p, m))
+fn receive_both(host: &mut Host<Line>, p: u32, fields: [u8; 6]) -> io::Result<()> {
+    host.receive(p, Kind::Phase, fields)?;
+    host.receive(p, Kind::Echo, fields)
 }

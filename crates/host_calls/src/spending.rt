@@ -1,68 +1,54 @@
 // What becomes of a permit in its own park: it is loaded and dispatched, or handed back.
-ghost use Rattle.std.specs.Prelude.{◌≡◌};
 ghost use Rattle.park.specs.States.{view};
+ghost use Rattle.permit.specs.Acts.{HeldAt};
 
 use channel::channel::Channel;
 use coins::Coins;
 use park::park::Park;
 use permit::desk::PermitStage;
-use permit::held::HeldPermit;
-use permit::loaded::LoadedPermit;
+use permit::permit::HeldPermit;
 use promise::perform::{dispatch, hand_back, load};
 
-// Loads with a permit that this park has given.
-pub(crate) fn load_here<C: Channel, K: Coins>(
-    park: &mut Park<C, K>,
-    permit: HeldPermit,
-) -> LoadedPermit
-    requires vehicle { permit.vehicle ≡ (view park.old).desk.vehicle }
-    requires held { (view park.old).desk.stage ≡ PermitStage.Held }
-    ensures permit { result.vehicle ≡ permit.vehicle }
-    ensures vehicle { (view park.new).desk.vehicle ≡ (view park.old).desk.vehicle }
-    ensures stage { (view park.new).desk.stage ≡ PermitStage.Loaded }
-{
-    match load(park, permit) {
-        Ok(loaded) => loaded,
-        Err(_back) => unreachable(),
-    }
+// How a permit was spent, with the stage of its park before and after each act.
+#[derive(Clone, Copy, Debug, PartialEq, Eq)]
+pub(crate) enum Spent {
+    Dispatched {
+        given: PermitStage,
+        loaded: PermitStage,
+        dispatched: PermitStage,
+    },
+    HandedBack {
+        given: PermitStage,
+        back: PermitStage,
+    },
 }
 
-// Dispatches with a permit that this park has loaded.
-pub(crate) fn dispatch_here<C: Channel, K: Coins>(park: &mut Park<C, K>, permit: LoadedPermit)
-    requires vehicle { permit.vehicle ≡ (view park.old).desk.vehicle }
-    requires loaded { (view park.old).desk.stage ≡ PermitStage.Loaded }
-{
-    match dispatch(park, permit) {
-        Ok(()) => (),
-        Err(_back) => unreachable(),
-    }
-}
-
-// Loads and dispatches with a permit that this park has given. Tells its stage after each.
+// Loads and dispatches with a permit that this park has given.
 pub(crate) fn load_and_dispatch<C: Channel, K: Coins>(
     park: &mut Park<C, K>,
     permit: HeldPermit,
-) -> (PermitStage, PermitStage)
-    requires vehicle { permit.vehicle ≡ (view park.old).desk.vehicle }
-    requires held { (view park.old).desk.stage ≡ PermitStage.Held }
+) -> Spent
+    requires { HeldAt (view park.old).desk permit }
 {
-    let loaded = load_here(park, permit);
-    let after_load = park.permit_stage();
-    dispatch_here(park, loaded);
-    (after_load, park.permit_stage())
+    let given = park.permit_stage();
+    let permit = load(park, permit).unwrap();
+    let loaded = park.permit_stage();
+    dispatch(park, permit).unwrap();
+    Spent::Dispatched {
+        given,
+        loaded,
+        dispatched: park.permit_stage(),
+    }
 }
 
-// Hands back a permit that this park has given. Tells its stage afterwards.
-pub(crate) fn give_up<C: Channel, K: Coins>(
-    park: &mut Park<C, K>,
-    permit: HeldPermit,
-) -> PermitStage
-    requires vehicle { permit.vehicle ≡ (view park.old).desk.vehicle }
-    requires held { (view park.old).desk.stage ≡ PermitStage.Held }
+// Hands back a permit that this park has given.
+pub(crate) fn give_up<C: Channel, K: Coins>(park: &mut Park<C, K>, permit: HeldPermit) -> Spent
+    requires { HeldAt (view park.old).desk permit }
 {
-    match hand_back(park, permit) {
-        Ok(()) => (),
-        Err(_back) => unreachable(),
+    let given = park.permit_stage();
+    hand_back(park, permit).unwrap();
+    Spent::HandedBack {
+        given,
+        back: park.permit_stage(),
     }
-    park.permit_stage()
 }

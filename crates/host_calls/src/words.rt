@@ -1,6 +1,6 @@
 // The words of the lines, and the messages of the calls.
-use permit::desk::PermitStage;
-use std::io;
+use std::alloc::AllocError;
+use std::fmt;
 use terms::message::{Kind, Mark, Message};
 use terms::word::{Cell, Place, Side, Word};
 
@@ -24,47 +24,57 @@ pub fn blank_message() -> Message {
     }
 }
 
+// Memory for so many messages.
+pub(crate) fn places(rt: &HostRuntime, count: usize) -> Result<Vec<Message>, AllocError> {
+    vec![in rt.alloc(); blank_message(); count]
+}
+
 // The word that fills the cells before a park is opened.
 pub const FILLING: Word = Word {
     group: Some(Side::One),
     name: Some(9),
 };
 
-pub fn is_filling(cell: Cell) -> bool {
-    match cell {
-        Cell::Holds(word) => matches!(word.group, Some(Side::One)) && matches!(word.name, Some(9)),
-        Cell::Empty => false,
-    }
+pub fn is_filling(cell: &Cell) -> bool {
+    matches!(
+        cell,
+        Cell::Holds(Word {
+            group: Some(Side::One),
+            name: Some(9),
+        })
+    )
 }
 
-// A message with group 0: its sender and receiver, its selector, round and phase, and the name in its word.
+// A message with group 0, of its sender and receiver, its selector, round and phase, and the name in its word.
 pub fn message(kind: Kind, fields: [u8; 6]) -> Message {
+    let [sender, receiver, selector, round, phase, name] = fields;
     let place = Place {
-        selector: fields[2],
-        round: fields[3],
-        phase: fields[4],
+        selector,
+        round,
+        phase,
     };
     let word = Word {
         group: Some(Side::Zero),
-        name: Some(fields[5]),
+        name: Some(name),
     };
     Message {
         kind,
-        sender: fields[0],
-        receiver: fields[1],
+        sender,
+        receiver,
         place,
         word,
     }
 }
 
-pub fn kind_word(kind: Kind) -> &'static str {
+// kept: a Display of Kind, Side or Mark would stand in terms, and these words for them are this program's.
+fn kind_word(kind: Kind) -> &'static str {
     match kind {
         Kind::Phase => "PHASE",
         Kind::Echo => "ECHO",
     }
 }
 
-pub fn group_word(group: Option<Side>) -> &'static str {
+fn group_word(group: Option<Side>) -> &'static str {
     match group {
         Some(Side::Zero) => "group 0",
         Some(Side::One) => "group 1",
@@ -79,32 +89,33 @@ pub fn mark_word(mark: Mark) -> &'static str {
     }
 }
 
-pub fn stage_word(stage: PermitStage) -> &'static str {
-    match stage {
-        PermitStage::NotGiven => "not given",
-        PermitStage::Held => "held",
-        PermitStage::Loaded => "loaded",
-        PermitStage::Dispatched => "dispatched",
-        PermitStage::HandedBack => "handed back",
-    }
-}
+// A message as a line shows it.
+#[derive(Clone, Copy)]
+pub(crate) struct Shown(pub(crate) Message);
 
-// Writes a message, with no end of line.
-pub fn write_message(rt: &HostRuntime, m: Message) -> io::Result<()> {
-    let Place {
-        selector,
-        round,
-        phase,
-    } = m.place;
-    let kind = kind_word(m.kind);
-    print!(rt;
-        "{kind} from {} to {} in {selector} {round} {phase}, {}",
-        m.sender,
-        m.receiver,
-        group_word(m.word.group)
-    )?;
-    match m.word.name {
-        Some(name) => print!(rt; ", name {name}"),
-        None => print!(rt; ", no name"),
+impl fmt::Display for Shown {
+    fn fmt<W: fmt::Write>(&self, f: &mut fmt::Formatter<W>) -> fmt::Result {
+        let Message {
+            kind,
+            sender,
+            receiver,
+            place,
+            word,
+        } = self.0;
+        let Place {
+            selector,
+            round,
+            phase,
+        } = place;
+        let kind = kind_word(kind);
+        let group = group_word(word.group);
+        write!(
+            f,
+            "{kind} from {sender} to {receiver} in {selector} {round} {phase}, {group}, "
+        )?;
+        match word.name {
+            Some(name) => write!(f, "name {name}"),
+            None => f.write_str("no name"),
+        }
     }
 }

@@ -1,6 +1,7 @@
 -- Collecting an answer, and the permit acts of a park.
 use Rattle.std.specs.Prelude.{◌≡◌, ℕ, not, Some, None, Ok, Option, Result}
 use Rattle.permit.specs.Acts.{at_stage, same_stage}
+use Rattle.permit.specs.Permits.{held}
 use Rattle.permit.specs.declared.desk.Desk.{Desk}
 use Rattle.permit.specs.declared.desk.PermitStage.TheVariants.{NotGiven, Held}
 use Rattle.terms.specs.declared.answer.Answer.{Answer}
@@ -21,7 +22,7 @@ module _ {C K : Type 0} where
   Tells (Some Undecided) s r t = (r ≡ Ok collected.Undecided) × (t ≡ s)
   Tells (Some Yes) s r t =
       Unless (when (not (same_stage s.desk.stage NotGiven)) Taken) s
-      (λ r t. (r ≡ Ok (collected.Yes (record { vehicle = s.desk.vehicle }))) × (t ≡ with_desk s (at_stage s.desk Held))) r t
+      (λ r t. (r ≡ Ok (collected.Yes (held s.desk.vehicle))) × (t ≡ with_desk s (at_stage s.desk Held))) r t
 
   abbrev pub Collects : State C K → ℕ → Result Collected Refusal → State C K → Type 0
   Collects s p r t = Unless (name_refusal s p) s (Tells (answer_in (of s p).stage) s) r t

@@ -10,8 +10,7 @@ use super::park::Park;
 use channel::channel::Channel;
 use coins::Coins;
 use permit::acts::Returned;
-use permit::held::HeldPermit;
-use permit::loaded::LoadedPermit;
+use permit::permit::{HeldPermit, LoadedPermit};
 use terms::answer::Answer;
 use terms::refusal::Refusal;
 

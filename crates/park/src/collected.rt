@@ -1,5 +1,5 @@
 // What collecting tells.
-use permit::held::HeldPermit;
+use permit::permit::HeldPermit;
 
 // The answer, and with the first collecting of a yes the permit.
 pub enum Collected {

@@ -2,11 +2,10 @@
 use Rattle.std.specs.Prelude.{◌≡◌, ℕ, Bool, true, false, ◌&&◌, Some, None, Ok, Err, Option, Result, ◌==◌}
 use Rattle.terms.specs.declared.refusal.Refusal.TheVariants.{Permit}
 use Rattle.permit.specs.declared.desk.Desk.{Desk}
-use Rattle.permit.specs.declared.held.HeldPermit.{HeldPermit}
-use Rattle.permit.specs.declared.loaded.LoadedPermit.{LoadedPermit}
 use Rattle.permit.specs.declared.desk.PermitStage.{PermitStage}
 use Rattle.permit.specs.declared.desk.PermitStage.TheVariants.{NotGiven, Held, Loaded, Dispatched, HandedBack}
 use Rattle.permit.specs.declared.acts.Returned.{Returned}
+use Rattle.permit.specs.Permits.{HeldPermit, LoadedPermit, held, loaded}
 
 -- no permit was given yet
 abbrev pub new_desk : ℕ → Desk
@@ -15,6 +14,7 @@ new_desk vehicle = record { vehicle = vehicle; stage = NotGiven }
 abbrev pub at_stage : Desk → PermitStage → Desk
 at_stage desk stage = record { vehicle = desk.vehicle; stage = stage }
 
+-- kept: by number, as the tags are; a file of specs cannot name the derived ==, and `take` is proved to agree with it
 abbrev pub stage_number : PermitStage → ℕ
 stage_number NotGiven = 0
 stage_number Held = 1
@@ -41,7 +41,7 @@ Moves false permit due next desk r after = (r ≡ Err (refused permit)) × (afte
 
 abbrev pub Loads : Desk → HeldPermit → Result LoadedPermit (Returned HeldPermit) → Desk → Type 0
 Loads desk permit r after =
-    Moves (fits desk permit.vehicle Held) permit (record { vehicle = permit.vehicle }) Loaded desk r after
+    Moves (fits desk permit.vehicle Held) permit (loaded permit.vehicle) Loaded desk r after
 
 abbrev pub Dispatches : Desk → LoadedPermit → Result (Unit {0}) (Returned LoadedPermit) → Desk → Type 0
 Dispatches desk permit r after = Moves (fits desk permit.vehicle Loaded) permit tt Dispatched desk r after
@@ -51,8 +51,12 @@ HandsBack desk permit r after = Moves (fits desk permit.vehicle Held) permit tt 
 
 -- the first time a permit for the desk's vehicle, and ever after none
 abbrev pub Given : Bool → Desk → Option HeldPermit → Desk → Type 0
-Given true desk r after = (r ≡ Some (record { vehicle = desk.vehicle })) × (after ≡ at_stage desk Held)
+Given true desk r after = (r ≡ Some (held desk.vehicle)) × (after ≡ at_stage desk Held)
 Given false desk r after = (r ≡ None) × (after ≡ desk)
 
 abbrev pub Gives : Desk → Option HeldPermit → Desk → Type 0
 Gives desk r after = Given (same_stage desk.stage NotGiven) desk r after
+
+-- the permit is the one that this desk has given, and it was neither loaded nor handed back
+abbrev pub HeldAt : Desk → HeldPermit → Type 0
+HeldAt desk permit = (permit.vehicle ≡ desk.vehicle) × (desk.stage ≡ Held)

@@ -1,20 +1,13 @@
 -- Examples of the acts at a desk for vehicle 7: what is accepted, what is refused, and the stage after it.
-use Rattle.std.specs.Prelude.{ℕ, Some, None, Ok, Err}
+use Rattle.std.specs.Prelude.{Some, None, Ok, Err}
 use Rattle.permit.specs.declared.desk.Desk.{Desk}
-use Rattle.permit.specs.declared.held.HeldPermit.{HeldPermit}
-use Rattle.permit.specs.declared.loaded.LoadedPermit.{LoadedPermit}
 use Rattle.permit.specs.declared.desk.PermitStage.{PermitStage}
 use Rattle.permit.specs.declared.desk.PermitStage.TheVariants.{NotGiven, Held, Loaded, Dispatched, HandedBack}
+use Rattle.permit.specs.Permits.{held, loaded}
 use Rattle.permit.specs.Acts.{refused, Gives, Loads, Dispatches, HandsBack}
 
 abbrev pub desk : PermitStage → Desk
 desk stage = record { vehicle = 7; stage = stage }
-
-abbrev pub held : ℕ → HeldPermit
-held vehicle = record { vehicle = vehicle }
-
-abbrev pub loaded : ℕ → LoadedPermit
-loaded vehicle = record { vehicle = vehicle }
 
 pub record ActsHold : Type 0 where
   pub first_permit_is_given : Gives (desk NotGiven) (Some (held 7)) (desk Held)

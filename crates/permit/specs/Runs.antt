@@ -1,11 +1,10 @@
 -- Runs of acts at a desk, in any order and with any permits, and what holds of every run: at most one permit is given, and it is spent at most once.
 use Rattle.std.specs.Prelude.{ℕ, ◌+◌, ◌≤◌, Bool, cond, ◌&&◌, List, [], ◌∷◌, is_some, is_ok, Option, Result}
 use Rattle.permit.specs.declared.desk.Desk.{Desk}
-use Rattle.permit.specs.declared.held.HeldPermit.{HeldPermit}
-use Rattle.permit.specs.declared.loaded.LoadedPermit.{LoadedPermit}
 use Rattle.permit.specs.declared.desk.PermitStage.{PermitStage}
 use Rattle.permit.specs.declared.desk.PermitStage.TheVariants.{Held, Loaded, Dispatched, HandedBack}
 use Rattle.permit.specs.declared.acts.Returned.{Returned}
+use Rattle.permit.specs.Permits.{HeldPermit, LoadedPermit}
 use Rattle.permit.specs.Acts.{same_stage, Gives, Loads, Dispatches, HandsBack}
 
 -- an act with its result

@@ -1,10 +1,9 @@
 // The acts at the desk: it gives one permit, and takes back what it gave.
 ghost use Rattle.std.specs.Prelude.{◌≡◌};
-ghost use Rattle.permit.specs.Acts.{fits, refused, Gives, Loads, Dispatches, HandsBack};
+ghost use Rattle.permit.specs.Acts.{fits, Gives, Moves, Loads, Dispatches, HandsBack};
 
 use super::desk::{Desk, PermitStage};
-use super::held::HeldPermit;
-use super::loaded::LoadedPermit;
+use super::permit::{Held, HeldPermit, Loaded, LoadedPermit, Permit};
 use terms::refusal::Refusal;
 
 // A refused permit comes back with the refusal.
@@ -22,57 +21,53 @@ impl Desk {
             return None;
         };
         self.stage = PermitStage::Held;
-        Some(HeldPermit {
+        Some(Permit {
             vehicle: self.vehicle,
+            state: Held,
         })
     }
 
     pub fn load(&mut self, permit: HeldPermit) -> Result<LoadedPermit, Returned<HeldPermit>>
         ensures { Loads self.old permit result self.new }
     {
-        if !self.knows(permit.vehicle, PermitStage::Held) {
-            return Err(give_back(permit));
-        }
-        self.stage = PermitStage::Loaded;
-        let HeldPermit { vehicle } = permit;
-        Ok(LoadedPermit { vehicle })
+        let vehicle = self.take(permit, PermitStage::Held, PermitStage::Loaded)?;
+        Ok(Permit {
+            vehicle,
+            state: Loaded,
+        })
     }
 
     pub fn dispatch(&mut self, permit: LoadedPermit) -> Result<(), Returned<LoadedPermit>>
         ensures { Dispatches self.old permit result self.new }
     {
-        if !self.knows(permit.vehicle, PermitStage::Loaded) {
-            return Err(give_back(permit));
-        }
-        self.stage = PermitStage::Dispatched;
-        let LoadedPermit { vehicle: _ } = permit;
+        self.take(permit, PermitStage::Loaded, PermitStage::Dispatched)?;
         Ok(())
     }
 
     pub fn hand_back(&mut self, permit: HeldPermit) -> Result<(), Returned<HeldPermit>>
         ensures { HandsBack self.old permit result self.new }
     {
-        if !self.knows(permit.vehicle, PermitStage::Held) {
-            return Err(give_back(permit));
-        }
-        self.stage = PermitStage::HandedBack;
-        let HeldPermit { vehicle: _ } = permit;
+        self.take(permit, PermitStage::Held, PermitStage::HandedBack)?;
         Ok(())
     }
 
-    // Whether a permit for this vehicle and at this stage is accepted.
-    fn knows(&self, vehicle: u32, stage: PermitStage) -> bool
-        ensures { result ≡ fits self.now vehicle stage }
+    // Takes a permit for this vehicle while the desk is at the one stage, and goes on to the next; gives the vehicle's number.
+    fn take<S: Drop>(
+        &mut self,
+        permit: Permit<S>,
+        stage: PermitStage,
+        next: PermitStage,
+    ) -> Result<u32, Returned<Permit<S>>>
+        ensures { Moves (fits self.old permit.vehicle stage) permit permit.vehicle next self.old result self.new }
     {
-        self.vehicle == vehicle && self.stage == stage
-    }
-}
-
-fn give_back<P>(permit: P) -> Returned<P>
-    ensures { result ≡ refused permit }
-{
-    Returned {
-        refusal: Refusal::Permit,
-        permit,
+        if self.vehicle != permit.vehicle || self.stage != stage {
+            return Err(Returned {
+                refusal: Refusal::Permit,
+                permit,
+            });
+        }
+        self.stage = next;
+        let Permit { vehicle, state: _ } = permit;
+        Ok(vehicle)
     }
 }

@@ -4,5 +4,4 @@
 
 pub mod acts;
 pub mod desk;
-pub mod held;
-pub mod loaded;
+pub mod permit;

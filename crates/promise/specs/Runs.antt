@@ -4,8 +4,7 @@ use Rattle.channel.specs.declared.channel.Channel as channel
 use Rattle.coins.specs.declared.Coins as coins
 use Rattle.permit.specs.Acts.{Loads, Dispatches, HandsBack}
 use Rattle.permit.specs.declared.acts.Returned.{Returned}
-use Rattle.permit.specs.declared.held.HeldPermit.{HeldPermit}
-use Rattle.permit.specs.declared.loaded.LoadedPermit.{LoadedPermit}
+use Rattle.permit.specs.Permits.{HeldPermit, LoadedPermit}
 use Rattle.terms.specs.declared.refusal.Refusal.{Refusal}
 use Rattle.terms.specs.declared.word.Cell.{Cell}
 use Rattle.park.specs.declared.collected.Collected.{Collected}

@@ -13,8 +13,7 @@ use coins::Coins;
 use park::collected::Collected;
 use park::park::Park;
 use permit::acts::Returned;
-use permit::held::HeldPermit;
-use permit::loaded::LoadedPermit;
+use permit::permit::{HeldPermit, LoadedPermit};
 use terms::answer::Progress;
 use terms::refusal::Refusal;
 

@@ -1,40 +1,36 @@
 // A station collects its answer and, given the permit, loads and dispatches the vehicle.
 ghost use Rattle.std.specs.Prelude.{◌≡◌};
 ghost use Rattle.park.specs.States.{view};
-ghost use Rattle.story.specs.Crossings.{Crosses, HeldAt, sent_off};
+ghost use Rattle.permit.specs.Acts.{HeldAt};
+ghost use Rattle.story.specs.Crossings.{Crosses, sent_off};
 
 use channel::channel::Channel;
 use coins::Coins;
 use park::collected::Collected;
 use park::park::Park;
-use permit::held::HeldPermit;
+use permit::permit::HeldPermit;
 use promise::perform::{collect, dispatch, load};
 use terms::refusal::Refusal;
 
-// What a station's collecting comes to.
-#[derive(Clone, Copy)]
+// What a station's collecting comes to, where it is not refused.
+#[derive(Clone, Copy, Debug, PartialEq, Eq)]
 pub enum Crossing {
     Dispatched,
     No,
     Undecided,
-    Refused(Refusal),
 }
 
 // Controller p collects; a permit that it is given is spent at once.
-pub fn cross<C: Channel, K: Coins>(park: &mut Park<C, K>, p: u32) -> Crossing
+pub fn cross<C: Channel, K: Coins>(park: &mut Park<C, K>, p: u32) -> Result<Crossing, Refusal>
     ensures { Crosses (view park.old) p result (view park.new) }
 {
-    let told = match collect(park, p) {
-        Ok(told) => told,
-        Err(refusal) => return Crossing::Refused(refusal),
-    };
-    match told {
+    match collect(park, p)? {
         Collected::Yes(permit) => {
             send_off(park, permit);
-            Crossing::Dispatched
+            Ok(Crossing::Dispatched)
         }
-        Collected::No => Crossing::No,
-        Collected::Undecided => Crossing::Undecided,
+        Collected::No => Ok(Crossing::No),
+        Collected::Undecided => Ok(Crossing::Undecided),
     }
 }
 
@@ -43,12 +39,6 @@ fn send_off<C: Channel, K: Coins>(park: &mut Park<C, K>, permit: HeldPermit)
     requires { HeldAt (view park.old).desk permit }
     ensures { view park.new ≡ sent_off (view park.old) }
 {
-    let loaded = match load(park, permit) {
-        Ok(loaded) => loaded,
-        Err(_back) => unreachable(),
-    };
-    match dispatch(park, loaded) {
-        Ok(()) => (),
-        Err(_back) => unreachable(),
-    }
+    let loaded = load(park, permit).unwrap();
+    dispatch(park, loaded).unwrap();
 }

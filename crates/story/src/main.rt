@@ -9,7 +9,7 @@ mod words;
 use tale::Tale;
 
 fn main(rt: HostRuntime) -> anyhow::Result<()> {
-    let mut tale = Tale::open(rt.alloc())?;
-    tale.tell(&rt)?;
+    let mut tale = Tale::open(&rt)?;
+    tale.tell()?;
     Ok(())
 }

@@ -1,4 +1,5 @@
 // The words of the story.
+// kept: they are for types of other crates, where alone a Display of them can stand, and the story has words of its own.
 use permit::desk::PermitStage;
 use promise::act::Act;
 use terms::answer::Answer;

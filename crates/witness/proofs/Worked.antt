@@ -8,8 +8,7 @@ use Rattle.coins.specs.declared.Coins as coins
 use Rattle.permit.specs.Acts.{Moves, at_stage, new_desk, same_stage}
 use Rattle.permit.specs.declared.desk.Desk.{Desk}
 use Rattle.permit.specs.declared.desk.PermitStage.TheVariants.{NotGiven, Held, Loaded, Dispatched}
-use Rattle.permit.specs.declared.held.HeldPermit.{HeldPermit}
-use Rattle.permit.specs.declared.loaded.LoadedPermit.{LoadedPermit}
+use Rattle.permit.specs.Permits as permits
 use Rattle.terms.specs.declared.answer.Answer.{Answer}
 use Rattle.terms.specs.declared.answer.Answer.TheVariants.{Yes}
 use Rattle.terms.specs.declared.answer.Progress.{Progress}
@@ -144,9 +143,9 @@ module _ {C K : Type 0} (ch : channel.Ghosts C) (co : coins.Ghosts K) (c : C) (k
         ∙ ap (λ x. progress_after ch co s 1 (v.group ∷ []) x at) (entries list at v a (λ x. x.name)) ∙ e in
         unless_none _ s _ _ _ (named a.is.up) (subst (λ o. StepsFrom ch co o s 1 r t) (sym (ready list at v a)) (subst (λ g. Advances ch co s 1 g r t) (sym goes) h))
 
-    collects_yes : Is list (stages.Answered Yes) → desk.stage ≡ NotGiven → Collects s 1 (Ok (collects.Yes (record { vehicle = desk.vehicle }))) (with_desk s (at_stage desk Held))
+    collects_yes : Is list (stages.Answered Yes) → desk.stage ≡ NotGiven → Collects s 1 (Ok (collects.Yes (permits.held desk.vehicle))) (with_desk s (at_stage desk Held))
     collects_yes i e =
-        let permit : HeldPermit = record { vehicle = desk.vehicle } in
+        let permit : permits.HeldPermit = permits.held desk.vehicle in
         let after : State C K = with_desk s (at_stage desk Held) in
         unless_none _ s _ _ _ (named i.up) (subst (λ o. Tells o s (Ok (collects.Yes permit)) after) (sym (ap answer_in i.stage))
         (unless_none _ s (λ r t. (r ≡ Ok (collects.Yes permit)) × (t ≡ after)) _ _ (not_when _ refusals.Taken (ap (λ u. not (same_stage u NotGiven)) e)) (refl, refl)))
@@ -200,17 +199,17 @@ module _ {C K : Type 0} (ch : channel.Ghosts C) (co : coins.Ghosts K) (c : C) (k
     does₃ : Does ch co s₂ (performed (Step 1) (Ok (Advanced (Answered Yes)))) s₃
     does₃ = (Ok (Answered Yes), steps (new_desk vehicle) s₂.controllers s₂.cells at₂ w asks₂ (Answered Yes) refl _ s₃ (refl, refl), refl)
 
-    does₄ : Does ch co s₃ (collected 1 (Ok (collects.Yes (record { vehicle = vehicle })))) s₄
+    does₄ : Does ch co s₃ (collected 1 (Ok (collects.Yes (permits.held vehicle)))) s₄
     does₄ = collects_yes (new_desk vehicle) s₃.controllers s₃.cells (answers s₂.controllers _ Yes asks₂.is) refl
 
     fitting : (eqb vehicle vehicle && true) ≡ true
     fitting = and_from _ _ (eq-eqb vehicle vehicle refl) refl
 
-    abbrev held : HeldPermit
-    held = record { vehicle = vehicle }
+    abbrev held : permits.HeldPermit
+    held = permits.held vehicle
 
-    abbrev ready_to_go : LoadedPermit
-    ready_to_go = record { vehicle = vehicle }
+    abbrev ready_to_go : permits.LoadedPermit
+    ready_to_go = permits.loaded vehicle
 
     does₅ : Does ch co s₄ (loaded held (Ok ready_to_go)) s₅
     does₅ = (subst (λ b. Moves b held ready_to_go Loaded s₄.desk (Ok ready_to_go) s₅.desk) (sym fitting) (refl, refl), refl)
