@@ -49,11 +49,11 @@ pub fn act<C: Channel>(rt: &HostRuntime, park: &mut Park<C, Seeded>, act: Act) -
         Ok(Outcome::Advanced(Progress::Opened(_, _))) => println!(rt; "accepted, no answer"),
         Ok(Outcome::Advanced(Progress::Answered(answer))) => println!(rt;
             "accepted, answer {}",
-            answer.letter()
+            char::from(answer)
         ),
         Ok(Outcome::Crashed) => println!(rt; "accepted"),
         Ok(Outcome::Delivered(receiver)) => println!(rt; "accepted, delivered to {receiver}"),
-        Err(refusal) => println!(rt; "refused {}", refusal.number()),
+        Err(refusal) => println!(rt; "refused {}", u8::from(refusal)),
     }
 }
 
@@ -89,7 +89,7 @@ pub fn fetch<C: Channel>(
 pub fn write_result(rt: &HostRuntime, r: Result<(), Refusal>) -> io::Result<()> {
     match r {
         Ok(()) => println!(rt; "accepted"),
-        Err(refusal) => println!(rt; "refused {}", refusal.number()),
+        Err(refusal) => println!(rt; "refused {}", u8::from(refusal)),
     }
 }
 

@@ -128,7 +128,7 @@ fn write_collecting(
         }
         Told::No => println!(rt; "no")?,
         Told::Undecided => println!(rt; "undecided")?,
-        Told::Refused(refusal) => println!(rt; "refused {}", refusal.number())?,
+        Told::Refused(refusal) => println!(rt; "refused {}", u8::from(refusal))?,
     }
     println!(rt; "stage: {}", stage_word(park.permit_stage()))
 }

@@ -160,7 +160,7 @@ fn try_opening(rt: &HostRuntime, heap: Global, opening: Opening) -> anyhow::Resu
         }
         Err(not_opened) => {
             let NotOpened { refusal, supplies } = not_opened;
-            println!(rt; "refused {}", refusal.number())?;
+            println!(rt; "refused {}", u8::from(refusal))?;
             write_back(rt, supplies)?;
         }
     }

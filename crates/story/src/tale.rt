@@ -81,7 +81,7 @@ impl Tale {
             Ok(Outcome::Delivered(receiver)) => self.tell_delivery(rt, number, receiver as u32),
             Err(refusal) => println!(rt;
                 "The park refuses this, with number {}.",
-                refusal.number()
+                u8::from(refusal)
             ),
         }
     }
