@@ -104,7 +104,7 @@ fn write_collecting<F: FnOnce(&mut Park<Line, Seeded>, HeldPermit) -> Spent>(
         Ok(Told::Yes(spent)) => write_spent(rt, spent)?,
         Ok(Told::No) => println!(rt; "no")?,
         Ok(Told::Undecided) => println!(rt; "undecided")?,
-        Err(refusal) => println!(rt; "refused {}", refusal.number())?,
+        Err(refusal) => println!(rt; "refused {}", u8::from(refusal))?,
     }
     println!(rt; "stage: {}", host.park.permit_stage())
 }

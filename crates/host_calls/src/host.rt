@@ -74,13 +74,13 @@ impl<'a, C: Channel + Drop> Host<'a, C> {
                 println!(self.rt; "accepted, no answer")
             }
             Ok(Outcome::Advanced(Progress::Answered(answer))) => {
-                println!(self.rt; "accepted, answer {}", answer.letter())
+                println!(self.rt; "accepted, answer {}", char::from(answer))
             }
             Ok(Outcome::Crashed) => println!(self.rt; "accepted"),
             Ok(Outcome::Delivered(receiver)) => {
                 println!(self.rt; "accepted, delivered to {receiver}")
             }
-            Err(refusal) => println!(self.rt; "refused {}", refusal.number()),
+            Err(refusal) => println!(self.rt; "refused {}", u8::from(refusal)),
         }
     }
 
@@ -110,7 +110,7 @@ impl<'a, C: Channel + Drop> Host<'a, C> {
         match self.park.receive(p, m) {
             Ok(()) => println!(self.rt; "receive at {p} {shown}: accepted"),
             Err(refusal) => {
-                println!(self.rt; "receive at {p} {shown}: refused {}", refusal.number())
+                println!(self.rt; "receive at {p} {shown}: refused {}", u8::from(refusal))
             }
         }
     }

@@ -148,7 +148,7 @@ fn try_opening(rt: &HostRuntime, opening: Opening) -> anyhow::Result<()> {
             write_back(rt, park.close())?;
         }
         Err(NotOpened { refusal, supplies }) => {
-            println!(rt; "refused {}", refusal.number())?;
+            println!(rt; "refused {}", u8::from(refusal))?;
             write_back(rt, supplies)?;
         }
     }

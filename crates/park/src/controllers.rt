@@ -55,7 +55,7 @@ impl Roster {
     {
         let at = m.receiver as usize - 1;
         let mut c = self.list[at];
-        if place.is_at(m.place)
+        if place == m.place
             && !is_majority(c.heard, majority)
             && !has_heard(c.heard, m.sender)
         {

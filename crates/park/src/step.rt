@@ -13,8 +13,8 @@ use coins::Coins;
 use terms::answer::Progress;
 use terms::heard::{collect_heard, is_majority};
 use terms::refusal::Refusal;
-use terms::rules::{Next, test_and_set, verdict_of_phase_2, word_of_phase_2};
-use terms::word::{Place, Side, Word};
+use terms::rules::{Heard, Next, test_and_set};
+use terms::word::{Place, Word};
 
 impl<C: Channel, K: Coins> Park<C, K> {
     // Controller p goes on from the phase that it has heard a majority in.
@@ -58,23 +58,12 @@ impl<C: Channel, K: Coins> Park<C, K> {
     {
         let c = self.roster.get(p);
         let heard = collect_heard(self.head.n, c.heard, &c.words);
-        self.progress_by(
-            p,
-            place,
-            &heard.groups[0..heard.count],
-            &heard.names[0..heard.count],
-        )
+        self.progress_by(p, place, heard.as_heard())
     }
 
-    fn progress_by(
-        &self,
-        p: u8,
-        place: Place,
-        groups: &[Option<Side>],
-        names: &[Option<u8>],
-    ) -> Progress
+    fn progress_by(&self, p: u8, place: Place, heard: Heard<'_>) -> Progress
         requires place { within place ≡ true }
-        ensures value { result ≡ progress_after C.Channel K.Coins (view self.now) p groups.now names.now place }
+        ensures value { result ≡ progress_after C.Channel K.Coins (view self.now) p heard.entry.groups.now heard.entry.names.now place }
         ensures within { opened_within result ≡ true }
     {
         if place.phase == 1 {
@@ -83,11 +72,11 @@ impl<C: Channel, K: Coins> Park<C, K> {
                 round: place.round,
                 phase: 2,
             };
-            return Progress::Opened(place, word_of_phase_2(groups, names));
+            return Progress::Opened(place, heard.word_of_phase_2());
         }
         let own = self.coins.draw_group(p, place.selector);
         let coin = self.coins.draw_coin(place.selector, place.round);
-        let verdict = verdict_of_phase_2(p, own, place.round, coin, groups, names);
+        let verdict = heard.verdict_of_phase_2(p, own, place.round, coin);
         self.opening_of(p, place, test_and_set(place.selector, place.round, verdict))
     }
 

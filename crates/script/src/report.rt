@@ -47,7 +47,7 @@ fn letter_of(answer: Option<Answer>) -> char
     ensures { result ≡ answer_letter answer }
 {
     match answer {
-        Some(answer) => answer.letter(),
+        Some(answer) => char::from(answer),
         None => '-',
     }
 }
@@ -59,7 +59,7 @@ impl Report {
         match *self {
             Report::NoRecord => '?',
             Report::Refused(act, why) => {
-                if why.number() == 15 {
+                if u8::from(why) == 15 {
                     '?'
                 } else {
                     act.letter()
@@ -75,7 +75,7 @@ impl Report {
     {
         match *self {
             Report::NoRecord => 15,
-            Report::Refused(_, why) => why.number(),
+            Report::Refused(_, why) => u8::from(why),
             Report::Opened => 0,
             Report::Acted { .. } => 0,
         }

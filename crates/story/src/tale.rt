@@ -79,7 +79,7 @@ impl<'a> Tale<'a> {
             Ok(Outcome::Delivered(receiver)) => self.tell_delivery(number, u32::from(receiver)),
             Err(refusal) => println!(self.rt;
                 "The park refuses this, with number {}.",
-                refusal.number()
+                u8::from(refusal)
             ),
         }
     }

@@ -1,19 +1,32 @@
 -- One controller more, among the entries heard.
-use Rattle.std.proofs.Common.{◌≡◌, ℕ, ◌+◌, ◌-◌, ◌/◌, ◌%◌, ◌^◌, ◌<◌, true, false, eqb, List, [], ◌∷◌, ◌++◌, length, get_or, take, drop, set, replicate, None, Option, sym, ap, ◌∙◌, add-one, arith, eq-eqb, ne_eqb}
-use Rattle.std.proofs.lemmas.List.{take_more_set, drop-set-lt, drop-drop, drop-replicate}
+use Rattle.std.proofs.Common.{◌≡◌, ℕ, ◌+◌, ◌-◌, ◌/◌, ◌%◌, ◌^◌, ◌<◌, ◌≤◌, true, false, eqb, List, [], ◌∷◌, ◌++◌, length, get_or, take, drop, set, length-append, replicate, None, Option, sym, ap, ◌∙◌, add-one, arith, eq-eqb, ne_eqb}
+use Rattle.std.proofs.lemmas.List.{get_or-take, length-take, drop-set-lt, drop-drop, drop-replicate}
 use Rattle.terms.specs.declared.word.Word.{Word}
 use Rattle.terms.specs.Heard.{blank, heard_entries}
 
-module _ {A : Type 0} (entry : Word → A) (heard : ℕ) (words : List Word) (found : List A) (i n : ℕ) (e : take n found ≡ heard_entries entry i heard words) where
-  pub heard_more : heard / 2 ^ i % 2 ≡ 1 → n < length found → take (n + 1) (set found n (entry (get_or words i blank))) ≡ heard_entries entry (i + 1) heard words
-  heard_more t l =
-      let b : eqb (heard / 2 ^ i % 2) 1 ≡ true = eq-eqb (heard / 2 ^ i % 2) 1 t in
-      take_more_set found n _ l ∙ rw (add-one i) (rw b (ap (λ (q : List A). q ++ (entry (get_or words i blank) ∷ [])) e))
+-- the entries found among the words of the first i controllers: as many as that at most
+pub record Found {A : Type 0} (entry : Word → A) (heard : ℕ) (words : List Word) (i : ℕ) (found : List A) : Type 0 where
+  pub few : length found ≤ i
+  pub are : found ≡ heard_entries entry i heard words
 
-  pub heard_same : (heard / 2 ^ i % 2 ≡ 1 → ⊥) → take n found ≡ heard_entries entry (i + 1) heard words
-  heard_same t =
+pub found_none : {A : Type 0} (entry : Word → A) (heard : ℕ) (words : List Word) (none : List A) → none ≡ [] → Found entry heard words 0 none
+found_none entry heard words none e = record { few = omega (arith, ap length e); are = e }
+
+module _ {A : Type 0} (entry : Word → A) (heard : ℕ) (words : List Word) (i : ℕ) (found : List A) (h : Found entry heard words i found) where
+  pub found_more : (end : ℕ) (more : List A) → heard / 2 ^ i % 2 ≡ 1 → i < length (take end words) → more ≡ found ++ entry (get_or (take end words) i blank) ∷ []
+      → Found entry heard words (i + 1) more
+  found_more end more t l m =
+      let b : eqb (heard / 2 ^ i % 2) 1 ≡ true = eq-eqb (heard / 2 ^ i % 2) 1 t in
+      let w : get_or (take end words) i blank ≡ get_or words i blank = get_or-take end words i blank (omega (arith, length-take end words, l)) in
+      record {
+        few = omega (arith, ap length m, length-append found (entry (get_or (take end words) i blank) ∷ []), h.few);
+        are = m ∙ rw w (rw (add-one i) (rw b (ap (λ (q : List A). q ++ (entry (get_or words i blank) ∷ [])) h.are)));
+      }
+
+  pub found_same : (same : List A) → (heard / 2 ^ i % 2 ≡ 1 → ⊥) → same ≡ found → Found entry heard words (i + 1) same
+  found_same same t m =
       let b : eqb (heard / 2 ^ i % 2) 1 ≡ false = ne_eqb (heard / 2 ^ i % 2) 1 t in
-      rw add-one (rw b e)
+      record { few = omega (arith, ap length m, h.few); are = m ∙ rw add-one (rw b h.are) }
 
 -- one entry more, and behind it only blanks still
 pub blanks_behind : {A : Type 0} (found : List (Option A)) (n : ℕ) (x : Option A) → drop n found ≡ replicate (15 - n) None → drop (n + 1) (set found n x) ≡ replicate (15 - (n + 1)) None

@@ -1,2 +1,4 @@
 pub mod Every
 pub mod Hearing
+pub mod Places
+pub mod Read

@@ -1,3 +1,4 @@
+pub mod Filled
 pub mod Heard
 pub mod Numbers
 pub mod Places

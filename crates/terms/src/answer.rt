@@ -4,18 +4,19 @@ ghost use Rattle.terms.specs.Numbers.{letter_of_answer};
 
 use super::word::{Place, Word};
 
-#[derive(Clone, Copy)]
+#[derive(Clone, Copy, Debug, PartialEq, Eq)]
 pub enum Answer {
     Yes,
     No,
     Undecided,
 }
 
-impl Answer {
-    pub fn letter(&self) -> char
-        ensures { result ≡ letter_of_answer self.now }
-    {
-        match self {
+// The letter by which an answer is told.
+impl From<Answer> for char {
+    ghost from_gives = { λ answer letter. letter ≡ letter_of_answer answer };
+
+    fn from(answer: Answer) -> char {
+        match answer {
             Answer::Yes => 'y',
             Answer::No => 'n',
             Answer::Undecided => 'u',
@@ -24,7 +25,7 @@ impl Answer {
 }
 
 // What an accepted call or step did: it opened a phase with a word, or it gave the answer.
-#[derive(Clone, Copy)]
+#[derive(Clone, Copy, Debug, PartialEq, Eq)]
 pub enum Progress {
     Opened(Place, Word),
     Answered(Answer),

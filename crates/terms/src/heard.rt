@@ -1,7 +1,8 @@
 // The majority, the heard set as a 16-bit number with bit p - 1 for controller p, and the words heard from it.
-ghost use Rattle.std.specs.Prelude.{◌≡◌, ◌-◌, ◌≤◌, min, take, drop, replicate, None, count_ones, nat_le};
+ghost use Rattle.std.specs.Prelude.{◌≡◌, min, count_ones, nat_le};
 ghost use Rattle.terms.specs.Heard.{majority_of, heard_from, alone, with_heard, heard_groups, heard_names};
 
+use super::entries::Entries;
 use super::word::Word;
 use super::words_heard::WordsHeard;
 
@@ -42,26 +43,17 @@ pub fn is_majority(set: u16, majority: u8) -> bool
 
 // The words heard from the first n controllers, by rising name: word i is of controller i + 1.
 pub fn collect_heard(n: u8, set: u16, words: &[Word; 15]) -> WordsHeard
-    ensures groups { take result.count result.groups ≡ heard_groups (min n 15) set words.now }
-    ensures names { take result.count result.names ≡ heard_names (min n 15) set words.now }
-    ensures no_further_groups { drop result.count result.groups ≡ replicate (15 - result.count) None }
-    ensures no_further_names { drop result.count result.names ≡ replicate (15 - result.count) None }
+    ensures groups { result.groups ≡ heard_groups (min n 15) set words.now }
+    ensures names { result.names ≡ heard_names (min n 15) set words.now }
 {
-    let mut groups = [None; 15];
-    let mut names = [None; 15];
-    let mut count = 0;
+    let mut groups = Entries::new();
+    let mut names = Entries::new();
     let end = n.min(15);
-    for i in 0..end {
-        let at = i as usize;
+    for (i, word) in words[..end as usize].iter().enumerate() {
         if (set >> i) % 2 == 1 {
-            groups[count] = words[at].group;
-            names[count] = words[at].name;
-            count += 1;
+            groups.push(word.group);
+            names.push(word.name);
         }
     }
-    WordsHeard {
-        groups,
-        names,
-        count,
-    }
+    WordsHeard { groups, names }
 }

@@ -2,6 +2,7 @@
 #![tactic(auto)]
 
 pub mod answer;
+pub mod entries;
 pub mod heard;
 pub mod message;
 pub mod place;

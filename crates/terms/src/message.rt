@@ -2,13 +2,14 @@
 use super::word::{Place, Word};
 
 // PHASE tells a word; ECHO answers with the word that is kept.
-#[derive(Clone, Copy, PartialEq, Eq)]
+#[derive(Clone, Copy, Debug, Default, PartialEq, Eq)]
 pub enum Kind {
+    #[default]
     Phase,
     Echo,
 }
 
-#[derive(Clone, Copy, PartialEq, Eq)]
+#[derive(Clone, Copy, Debug, Default, PartialEq, Eq)]
 pub struct Message {
     pub kind: Kind,
     pub sender: u8,
@@ -18,7 +19,7 @@ pub struct Message {
 }
 
 // What became of a fetched message: gone from the channel, or copied and still waiting in it.
-#[derive(Clone, Copy, PartialEq, Eq)]
+#[derive(Clone, Copy, Debug, PartialEq, Eq)]
 pub enum Mark {
     Gone,
     Copied,

@@ -2,60 +2,44 @@
 ghost use Rattle.std.specs.Prelude.{◌≡◌};
 ghost use Rattle.terms.specs.Numbers.{number_of};
 
-#[derive(Clone, Copy)]
+#[derive(Clone, Copy, Debug, PartialEq, Eq)]
 pub enum Refusal {
     // The number of controllers is 0 or over 15.
-    Count,
+    Count = 1,
     // Fewer cells than 1,024 for each controller.
-    Memory,
+    Memory = 2,
     // The channel has fewer places than there are other controllers.
-    Places,
+    Places = 3,
     // The name is 0 or over the number of controllers.
-    Name,
+    Name = 4,
     // The controller is down.
-    Down,
+    Down = 5,
     // The controller has called before.
-    Called,
+    Called = 6,
     // A step of a controller that is not ready.
-    NotReady,
+    NotReady = 7,
     // Too few places are free for the messages that the act would send.
-    NoPlace,
+    NoPlace = 8,
     // Nothing waits in the channel.
-    Nothing,
+    Nothing = 9,
     // At an opening, something waits in the channel.
-    Leftover,
+    Leftover = 10,
     // The message is not well formed, or is for another controller.
-    Message,
+    Message = 11,
     // There is no answer to collect yet.
-    NoAnswer,
+    NoAnswer = 12,
     // The yes was collected before.
-    Taken,
+    Taken = 13,
     // The permit is for another vehicle, or its stage is not the park's.
-    Permit,
+    Permit = 14,
     // The record of the script is no record.
-    Line,
+    Line = 15,
 }
 
-impl Refusal {
-    pub fn number(&self) -> u8
-        ensures { result ≡ number_of self.now }
-    {
-        match self {
-            Refusal::Count => 1,
-            Refusal::Memory => 2,
-            Refusal::Places => 3,
-            Refusal::Name => 4,
-            Refusal::Down => 5,
-            Refusal::Called => 6,
-            Refusal::NotReady => 7,
-            Refusal::NoPlace => 8,
-            Refusal::Nothing => 9,
-            Refusal::Leftover => 10,
-            Refusal::Message => 11,
-            Refusal::NoAnswer => 12,
-            Refusal::Taken => 13,
-            Refusal::Permit => 14,
-            Refusal::Line => 15,
-        }
+impl From<Refusal> for u8 {
+    ghost from_gives = { λ refusal number. number ≡ number_of refusal };
+
+    fn from(refusal: Refusal) -> u8 {
+        refusal as u8
     }
 }

@@ -3,54 +3,58 @@ ghost use Rattle.std.specs.Prelude.{◌≡◌};
 ghost use Rattle.terms.specs.Rules.{second_word, verdict_of, next_of};
 
 use super::answer::Answer;
-use super::reading::{all_named, read_groups, read_names, smallest_group, smallest_name};
+use super::reading::{all_alike, reading, smallest};
 use super::word::{Side, Word};
 
 // What the four rules after phase 2 come to: a selector's result, a pair of yes or no, or going on to the next round with a group.
-#[derive(Clone, Copy)]
+#[derive(Clone, Copy, Debug, PartialEq, Eq)]
 pub enum Verdict {
     Pair((bool, bool)),
     GoOn(Side),
 }
 
 // What follows: the answer, the next round with a group, or the next selector.
-#[derive(Clone, Copy)]
+#[derive(Clone, Copy, Debug, PartialEq, Eq)]
 pub enum Next {
     Answer(Answer),
     Round(Side),
     Selector,
 }
 
-// After phase 1: the word with which phase 2 is opened.
-pub fn word_of_phase_2(groups: &[Option<Side>], names: &[Option<u8>]) -> Word
-    ensures { result ≡ second_word groups.now names.now }
-{
-    Word {
-        group: read_groups(groups),
-        name: read_names(names),
-    }
+// What was heard in a phase: the groups and the names, blanks among them.
+#[derive(Clone, Copy)]
+pub struct Heard<'a> {
+    pub groups: &'a [Option<Side>],
+    pub names: &'a [Option<u8>],
 }
 
-// After phase 2: the first of the four rules that fits.
-pub fn verdict_of_phase_2(
-    me: u8,
-    own: Side,
-    round: u8,
-    coin: Side,
-    groups: &[Option<Side>],
-    names: &[Option<u8>],
-) -> Verdict
-    ensures { result ≡ verdict_of me own round coin groups.now names.now }
-{
-    if let Some(name) = smallest_name(names) {
-        return verdict_by_name(me, own, name, names);
+impl Heard<'_> {
+    #[tactic(auto, using(crate::proofs::Read::read_sides))]
+    // After phase 1: the word with which phase 2 is opened.
+    pub fn word_of_phase_2(self) -> Word
+        ensures { result ≡ second_word self.entry.groups.now self.entry.names.now }
+    {
+        Word {
+            group: reading(self.groups),
+            name: reading(self.names),
+        }
     }
-    if let Some(group) = read_groups(groups) {
-        return Verdict::Pair((group == own, false));
-    }
-    match smallest_group(groups) {
-        Some(group) => Verdict::GoOn(group),
-        None => Verdict::GoOn(if round == 1 { own } else { coin }),
+
+    #[tactic(auto, using(crate::proofs::Read::read_sides, crate::proofs::Read::smallest_side, crate::proofs::Read::smallest_number))]
+    // After phase 2: the first of the four rules that fits.
+    pub fn verdict_of_phase_2(self, me: u8, own: Side, round: u8, coin: Side) -> Verdict
+        ensures { result ≡ verdict_of me own round coin self.entry.groups.now self.entry.names.now }
+    {
+        if let Some(name) = smallest(self.names) {
+            return verdict_by_name(me, own, name, self.names);
+        }
+        if let Some(group) = reading(self.groups) {
+            return Verdict::Pair((group == own, false));
+        }
+        match smallest(self.groups) {
+            Some(group) => Verdict::GoOn(group),
+            None => Verdict::GoOn(if round == 1 { own } else { coin }),
+        }
     }
 }
 
@@ -61,7 +65,7 @@ fn verdict_by_name(me: u8, own: Side, name: u8, names: &[Option<u8>]) -> Verdict
     if name != me {
         return Verdict::Pair((false, false));
     }
-    if all_named(me, names) {
+    if all_alike(Some(me), names) {
         Verdict::Pair((true, true))
     } else {
         Verdict::GoOn(own)

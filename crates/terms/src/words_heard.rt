@@ -1,13 +1,24 @@
-// The groups and the names heard, as two lists.
-ghost use Rattle.std.specs.Prelude.{◌≡◌, ℕ, ◌≤◌, take};
+// The groups and the names heard, each by rising name of those who told them.
+ghost use Rattle.std.specs.Prelude.{◌≡◌};
 
+use super::entries::Entries;
+use super::rules::Heard;
 use super::word::Side;
 
-// The first `count` entries of each list are those heard.
 #[derive(Clone, Copy)]
 pub struct WordsHeard {
-    pub groups: [Option<Side>; 15],
-    pub names: [Option<u8>; 15],
-    pub count: usize,
-    ghost few: { count ≤ 15 },
+    pub groups: Entries<Side>,
+    pub names: Entries<u8>,
+}
+
+impl WordsHeard {
+    pub fn as_heard(&self) -> Heard<'_>
+        ensures groups { result.groups.now ≡ self.now.groups }
+        ensures names { result.names.now ≡ self.now.names }
+    {
+        Heard {
+            groups: self.groups.as_slice(),
+            names: self.names.as_slice(),
+        }
+    }
 }

@@ -1,31 +1,31 @@
-use Rattle.std.proofs.Common.{get_or, arith, length-set}
-use Rattle.terms.specs.Heard.{blank}
-use Rattle.terms.proofs.Hearing.{heard_more, heard_same, blanks_behind}
+use Rattle.std.proofs.Common.{◌∙◌}
+use Rattle.terms.proofs.Hearing.{found_none, found_more, found_same}
 use Rattle.terms.proofs.heard.collect_heard.Goals as goal
 use Rattle.terms.proofs.heard.collect_heard.Goals.{then-set-i-eq1, else-set-i-eq1}
 
+pub loop-i-init : goal.loop-i-init
+loop-i-init c = record {
+  groups = found_none (λ w. w.group) c.args.set c.args.words.now _ c.new-groups.ensures;
+  names = found_none (λ w. w.name) c.args.set c.args.words.now _ c.new-names.ensures;
+}
+
 pub loop-i-preserved : goal.loop-i-preserved
 loop-i-preserved c =
-    let s = c.args.set in
-    let ws = c.args.words.now in
     let l = c.loop-i in
-    let m = c.min-end.ensures in
-    let g = l.invariant.1 in let n = l.invariant.2 in
+    let set = c.args.set in
+    let words = c.args.words.now in
     elim c.if-set-i-eq1.branch [
       | then-set-i-eq1 w ↦
           let bit = w.if-set-i-eq1.true in
-          let gs = heard_more (λ w. w.group) s ws l.groups l.i l.count l.invariant.3 bit (omega arith) in
-          let ns = heard_more (λ w. w.name) s ws l.names l.i l.count l.invariant.4 bit (omega arith) in
-          let rg = blanks_behind l.groups l.count (get_or ws l.i blank).group l.invariant.5 in
-          let rn = blanks_behind l.names l.count (get_or ws l.i blank).name l.invariant.6 in
-          let lg = length-set l.groups l.count (get_or ws l.i blank).group in
-          let ln = length-set l.names l.count (get_or ws l.i blank).name in
-          let q = w.count-is in let k = w.groups-is in let j = w.names-is in
-          (omega arith, cc, cc, cc, cc, cc, cc)
+          let end = c.min-end.result in
+          record {
+            groups = found_more (λ w. w.group) set words l.i l.groups l.invariant.groups end _ bit c.loop-i-test.true (w.groups-is ∙ w.push.ensures);
+            names = found_more (λ w. w.name) set words l.i l.names l.invariant.names end _ bit c.loop-i-test.true (w.names-is ∙ w.push-then-set-i-eq1.ensures);
+          }
       | else-set-i-eq1 w ↦
           let bit = w.if-set-i-eq1.false in
-          let gs = heard_same (λ w. w.group) s ws l.groups l.i l.count l.invariant.3 bit in
-          let ns = heard_same (λ w. w.name) s ws l.names l.i l.count l.invariant.4 bit in
-          let q = w.count-is in let k = w.groups-is in let j = w.names-is in
-          (omega arith, cc, cc, cc, cc, cc, cc)
+          record {
+            groups = found_same (λ w. w.group) set words l.i l.groups l.invariant.groups _ bit w.groups-is;
+            names = found_same (λ w. w.name) set words l.i l.names l.invariant.names _ bit w.names-is;
+          }
     ]

@@ -1,19 +1,13 @@
-use Rattle.std.proofs.Common.{sym, ap, ◌∙◌}
-use Rattle.std.proofs.lemmas.List.{drop_all}
-use Rattle.terms.specs.Readings.{smallest_of}
-use Rattle.terms.proofs.Every.{smallest_more}
+use Rattle.std.proofs.Common.{◌∙◌, rules, tests}
+use Rattle.std.proofs.lemmas.Iterator.{YieldsList-from_slice}
+use Rattle.std.proofs.lemmas.Iterator.Consumers.{YieldsList-from_filter_map, reduce_from_yields_List}
+use Rattle.std.specs.Ordering.{min_by_ordering}
+use Rattle.terms.proofs.Read.{smallest_is}
 use Rattle.terms.proofs.reading.smallest.Goals as goal
 
-pub loop-entry-preserved : goal.loop-entry-preserved
-loop-entry-preserved g c below t =
-    let xs = c.args.entries.now in
-    let i = c.loop-entry.entry-index in
-    let more = smallest_more below xs i c.loop-entry.best c.entry-item.result c.loop-entry-test.true c.entry-item.is in
-    let h = c.smaller_of-best.ensures below t in
-    let inv = c.loop-entry.invariant below t in
-    cc
-
 pub returns : goal.returns
-returns g c below t =
-    let e = drop_all c.loop-entry.entry-index c.args.entries.now c.loop-entry-test.false in
-    ap (λ xs. smallest_of below c.loop-entry.best xs) (sym e) ∙ c.loop-entry.invariant below t
+returns g c =
+    let order = g.T.Ord.cmp in
+    reduce_from_yields_List (λ x y. min_by_ordering (order x y) x y) _ _ c.min.ensures.ran
+    (YieldsList-from_filter_map _ (λ o. o) (YieldsList-from_slice c.args.entries.now cc) c.filter_map.ensures.closure (λ x r q k. search (rules, tests)))
+    ∙ smallest_is order g.met.T.Ord.total c.args.entries.now
