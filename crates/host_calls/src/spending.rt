@@ -1,6 +1,5 @@
 // What becomes of a permit in its own park: it is loaded and dispatched, or handed back.
 ghost use Rattle.std.specs.Prelude.{◌≡◌};
-ghost use Rattle.park.specs.States.{view};
 
 use channel::channel::Channel;
 use coins::Coins;
@@ -15,11 +14,11 @@ pub(crate) fn load_here<C: Channel, K: Coins>(
     park: &mut Park<C, K>,
     permit: HeldPermit,
 ) -> LoadedPermit
-    requires vehicle { permit.vehicle ≡ (view park.old).desk.vehicle }
-    requires held { (view park.old).desk.stage ≡ PermitStage.Held }
+    requires vehicle { permit.vehicle ≡ park.old.desk.vehicle }
+    requires held { park.old.desk.stage ≡ PermitStage.Held }
     ensures permit { result.vehicle ≡ permit.vehicle }
-    ensures vehicle { (view park.new).desk.vehicle ≡ (view park.old).desk.vehicle }
-    ensures stage { (view park.new).desk.stage ≡ PermitStage.Loaded }
+    ensures vehicle { park.new.desk.vehicle ≡ park.old.desk.vehicle }
+    ensures stage { park.new.desk.stage ≡ PermitStage.Loaded }
 {
     match load(park, permit) {
         Ok(loaded) => loaded,
@@ -29,8 +28,8 @@ pub(crate) fn load_here<C: Channel, K: Coins>(
 
 // Dispatches with a permit that this park has loaded.
 pub(crate) fn dispatch_here<C: Channel, K: Coins>(park: &mut Park<C, K>, permit: LoadedPermit)
-    requires vehicle { permit.vehicle ≡ (view park.old).desk.vehicle }
-    requires loaded { (view park.old).desk.stage ≡ PermitStage.Loaded }
+    requires vehicle { permit.vehicle ≡ park.old.desk.vehicle }
+    requires loaded { park.old.desk.stage ≡ PermitStage.Loaded }
 {
     match dispatch(park, permit) {
         Ok(()) => (),
@@ -43,8 +42,8 @@ pub(crate) fn load_and_dispatch<C: Channel, K: Coins>(
     park: &mut Park<C, K>,
     permit: HeldPermit,
 ) -> (PermitStage, PermitStage)
-    requires vehicle { permit.vehicle ≡ (view park.old).desk.vehicle }
-    requires held { (view park.old).desk.stage ≡ PermitStage.Held }
+    requires vehicle { permit.vehicle ≡ park.old.desk.vehicle }
+    requires held { park.old.desk.stage ≡ PermitStage.Held }
 {
     let loaded = load_here(park, permit);
     let after_load = park.permit_stage();
@@ -57,8 +56,8 @@ pub(crate) fn give_up<C: Channel, K: Coins>(
     park: &mut Park<C, K>,
     permit: HeldPermit,
 ) -> PermitStage
-    requires vehicle { permit.vehicle ≡ (view park.old).desk.vehicle }
-    requires held { (view park.old).desk.stage ≡ PermitStage.Held }
+    requires vehicle { permit.vehicle ≡ park.old.desk.vehicle }
+    requires held { park.old.desk.stage ≡ PermitStage.Held }
 {
     match hand_back(park, permit) {
         Ok(()) => (),

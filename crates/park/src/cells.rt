@@ -3,6 +3,7 @@ ghost use Rattle.std.specs.Prelude.{◌≡◌, ℕ, ◌+◌, ◌*◌, ◌<◌, �
 ghost use Rattle.terms.specs.declared.word.Cell.TheVariants.{Empty, Holds};
 ghost use Rattle.terms.specs.Places.{within};
 ghost use Rattle.park.specs.Cells.{first_word, kept_word, keeping, saying};
+ghost use Rattle.park.specs.States.{block_of};
 
 use terms::word::{Cell, Place, Word};
 
@@ -12,6 +13,7 @@ pub(crate) fn say(cells: &mut Vec<Cell>, p: u8, place: Place, word: Word) -> Wor
     requires place { within place ≡ true }
     ensures items { cells.new.items ≡ saying cells.old.items p place word }
     ensures len { vec_len cells.new ≡ vec_len cells.old }
+    ensures block { block_of cells.new ≡ block_of cells.old }
     ensures kept { result ≡ kept_word cells.old.items p place word }
 {
     let from = (p as usize - 1) * 1024;
@@ -24,6 +26,7 @@ pub(crate) fn keep(cells: &mut Vec<Cell>, p: u8, place: Place, word: Word) -> Wo
     requires place { within place ≡ true }
     ensures items { cells.new.items ≡ keeping cells.old.items p place word }
     ensures len { vec_len cells.new ≡ vec_len cells.old }
+    ensures block { block_of cells.new ≡ block_of cells.old }
     ensures kept { result ≡ kept_word cells.old.items p place word }
 {
     let from = (p as usize - 1) * 1024;
@@ -73,6 +76,7 @@ pub(crate) fn empty_first(cells: &mut Vec<Cell>, all: usize)
     requires { all ≤ vec_len cells.old }
     ensures items { cells.new.items ≡ replicate all Empty ++ drop all cells.old.items }
     ensures len { vec_len cells.new ≡ vec_len cells.old }
+    ensures block { block_of cells.new ≡ block_of cells.old }
 {
     let part = &mut cells[0..all];
     part.fill(Cell::Empty);

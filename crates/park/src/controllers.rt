@@ -40,11 +40,10 @@ impl Roster {
         ensures { self.new.list ≡ with_record self.old.list p (asking (record_of self.old.list p) p place kept) }
     {
         let at = p as usize - 1;
-        let mut c = self.list[at];
+        let c = &mut self.list[at];
         c.stage = Stage::Asking(place);
         c.heard = heard_alone(p);
         c.words[at] = kept;
-        self.list[at] = c;
     }
 
     // An ECHO to a caller that asks at this place counts only if the caller waits, the ECHO is of that place, and its sender was not heard.
@@ -53,15 +52,13 @@ impl Roster {
         requires sender { (1 ≤ m.sender) × (m.sender ≤ 15) }
         ensures { self.new.list ≡ after_echo majority self.old.list m (Stage.Asking place) }
     {
-        let at = m.receiver as usize - 1;
-        let mut c = self.list[at];
+        let c = &mut self.list[m.receiver as usize - 1];
         if place.is_at(m.place)
             && !is_majority(c.heard, majority)
             && !has_heard(c.heard, m.sender)
         {
             c.heard = heard_also(c.heard, m.sender);
             c.words[m.sender as usize - 1] = m.word;
-            self.list[at] = c;
         }
     }
 }

@@ -1,7 +1,6 @@
 // Finding a controller by the number that a host gives.
-ghost use Rattle.std.specs.Prelude.{◌≡◌, ℕ, ◌≤◌, Some, None, MatchResult};
-ghost use Rattle.park.specs.Refusals.{name_refusal};
-ghost use Rattle.park.specs.States.{view};
+ghost use Rattle.std.specs.Prelude.{◌≡◌, ℕ, ◌≤◌, true, false, Some, None, MatchOption, MatchResult};
+ghost use Rattle.park.specs.Refusals.{name_refusal, no_such_name};
 
 use super::park::Park;
 use channel::channel::Channel;
@@ -11,15 +10,23 @@ use terms::refusal::Refusal;
 impl<C: Channel, K: Coins> Park<C, K> {
     // The name of a controller of the park that is up, or why there is none.
     pub(crate) fn find_up(&self, p: u32) -> Result<u8, Refusal>
-        ensures { MatchResult result (λ q. (q ≡ p) × (1 ≤ q) × (q ≤ self.now.head.n) × (name_refusal (view self.now) p ≡ None)) (λ e. name_refusal (view self.now) p ≡ Some e) }
+        ensures { MatchResult result (λ q. (q ≡ p) × (1 ≤ q) × (q ≤ self.now.n) × (q ≤ 15) × (name_refusal self.now p ≡ None)) (λ e. name_refusal self.now p ≡ Some e) }
     {
-        if p == 0 || p > self.head.n as u32 {
-            return Err(Refusal::Name);
-        }
-        let p = p as u8;
+        let p = self.find(p).ok_or(Refusal::Name)?;
         if !self.roster.get(p).up {
             return Err(Refusal::Down);
         }
         Ok(p)
+    }
+
+    // The name of a controller of the park.
+    pub(crate) fn find(&self, p: u32) -> Option<u8>
+        ensures { MatchOption result (no_such_name self.now p ≡ true) (λ q. (q ≡ p) × (1 ≤ q) × (q ≤ self.now.n) × (q ≤ 15) × (no_such_name self.now p ≡ false)) }
+    {
+        if p == 0 || p > self.head.n as u32 {
+            None
+        } else {
+            Some(p as u8)
+        }
     }
 }

@@ -3,7 +3,6 @@ ghost use Rattle.std.specs.Prelude.{◌≡◌, ℕ, ◌+◌, ◌≤◌, true, le
 ghost use Rattle.terms.specs.Places.{within};
 ghost use Rattle.park.specs.Asks.{Opens, Advances};
 ghost use Rattle.park.specs.Stays.{opened_within};
-ghost use Rattle.park.specs.States.{view};
 
 use super::broadcast::send_to_others;
 use super::cells::say;
@@ -17,9 +16,9 @@ use terms::word::{Place, Word};
 impl<C: Channel, K: Coins> Park<C, K> {
     // Opens a phase, if enough places are free, or gives the answer.
     pub(crate) fn advance(&mut self, p: u8, progress: Progress) -> Result<Progress, Refusal>
-        requires name { (1 ≤ p) × (p ≤ self.old.head.n) }
+        requires name { (1 ≤ p) × (p ≤ self.old.n) }
         requires place { opened_within progress ≡ true }
-        ensures { Advances C.Channel K.Coins (view self.old) p progress result (view self.new) }
+        ensures { Advances C.Channel K.Coins self.old p progress result self.new }
     {
         match progress {
             Progress::Opened(place, word) => {
@@ -35,10 +34,10 @@ impl<C: Channel, K: Coins> Park<C, K> {
 
     // Says the word, hears itself alone, and sends PHASE to the others.
     fn open_phase(&mut self, p: u8, place: Place, word: Word)
-        requires name { (1 ≤ p) × (p ≤ self.old.head.n) }
+        requires name { (1 ≤ p) × (p ≤ self.old.n) }
         requires place { within place ≡ true }
-        requires free { self.old.head.n + length (C.Channel.bag self.old.channel) ≤ C.Channel.places self.old.channel + 1 }
-        ensures { Opens C.Channel K.Coins (view self.old) p place word (view self.new) }
+        requires free { self.old.n + length (C.Channel.bag self.old.channel) ≤ C.Channel.places self.old.channel + 1 }
+        ensures { Opens C.Channel K.Coins self.old p place word self.new }
     {
         let kept = say(&mut self.cells, p, place, word);
         self.roster.ask(p, place, kept);

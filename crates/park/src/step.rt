@@ -3,7 +3,7 @@ ghost use Rattle.std.specs.Prelude.{◌≡◌, ℕ, ◌≤◌, true, IfSome};
 ghost use Rattle.terms.specs.Places.{within};
 ghost use Rattle.park.specs.Asks.{Steps, progress_from, progress_after, goes_to};
 ghost use Rattle.park.specs.Controllers.{ready_at};
-ghost use Rattle.park.specs.States.{view, of};
+ghost use Rattle.park.specs.States.{of};
 ghost use Rattle.park.specs.Stays.{opened_within, NextFits};
 
 use super::controller::Stage;
@@ -19,12 +19,9 @@ use terms::word::{Place, Side, Word};
 impl<C: Channel, K: Coins> Park<C, K> {
     // Controller p goes on from the phase that it has heard a majority in.
     pub fn step(&mut self, p: u32) -> Result<Progress, Refusal>
-        ensures { Steps C.Channel K.Coins (view self.old) p result (view self.new) }
+        ensures { Steps C.Channel K.Coins self.old p result self.new }
     {
-        let p = match self.find_up(p) {
-            Ok(p) => p,
-            Err(refusal) => return Err(refusal),
-        };
+        let p = self.find_up(p)?;
         let Some(place) = self.ready_place(p) else {
             return Err(Refusal::NotReady);
         };
@@ -34,26 +31,22 @@ impl<C: Channel, K: Coins> Park<C, K> {
 
     // Where controller p is ready.
     fn ready_place(&self, p: u8) -> Option<Place>
-        requires name { (1 ≤ p) × (p ≤ self.now.head.n) }
-        ensures value { result ≡ ready_at self.now.head.majority (of (view self.now) p) }
+        requires name { (1 ≤ p) × (p ≤ self.now.n) }
+        ensures value { result ≡ ready_at self.now.majority (of self.now p) }
         ensures within { IfSome result (λ at. within at ≡ true) }
     {
         let c = self.roster.get(p);
         match c.stage {
-            Stage::Asking(place) => if is_majority(c.heard, self.head.majority) {
-                Some(place)
-            } else {
-                None
-            },
-            Stage::Uncalled | Stage::Answered(_) => None,
+            Stage::Asking(place) if is_majority(c.heard, self.head.majority) => Some(place),
+            Stage::Uncalled | Stage::Asking(_) | Stage::Answered(_) => None,
         }
     }
 
     // What a step of controller p from this place comes to, by what it heard there.
     fn progress(&self, p: u8, place: Place) -> Progress
-        requires name { (1 ≤ p) × (p ≤ self.now.head.n) }
+        requires name { (1 ≤ p) × (p ≤ self.now.n) }
         requires place { within place ≡ true }
-        ensures value { result ≡ progress_from C.Channel K.Coins (view self.now) p place }
+        ensures value { result ≡ progress_from C.Channel K.Coins self.now p place }
         ensures within { opened_within result ≡ true }
     {
         let c = self.roster.get(p);
@@ -74,7 +67,7 @@ impl<C: Channel, K: Coins> Park<C, K> {
         names: &[Option<u8>],
     ) -> Progress
         requires place { within place ≡ true }
-        ensures value { result ≡ progress_after C.Channel K.Coins (view self.now) p groups.now names.now place }
+        ensures value { result ≡ progress_after C.Channel K.Coins self.now p groups.now names.now place }
         ensures within { opened_within result ≡ true }
     {
         if place.phase == 1 {
@@ -95,7 +88,7 @@ impl<C: Channel, K: Coins> Park<C, K> {
     fn opening_of(&self, p: u8, place: Place, next: Next) -> Progress
         requires place { within place ≡ true }
         requires next { NextFits place next }
-        ensures value { result ≡ goes_to C.Channel K.Coins (view self.now) p place next }
+        ensures value { result ≡ goes_to C.Channel K.Coins self.now p place next }
         ensures within { opened_within result ≡ true }
     {
         match next {

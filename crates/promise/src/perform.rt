@@ -2,7 +2,6 @@
 ghost use Rattle.std.specs.Prelude.{◌≡◌};
 ghost use Rattle.permit.specs.Acts.{Loads, Dispatches, HandsBack};
 ghost use Rattle.park.specs.Permits.{Collects, AtDesk};
-ghost use Rattle.park.specs.States.{view};
 ghost use Rattle.promise.specs.Performs.{Performs, advanced, crashed, delivered};
 ghost use Rattle.promise.specs.Promise.{EveryRunKeepsThePromise, KeepsThePromise};
 ghost use Rattle.promise.specs.Runs.{performed, collected, loaded, dispatched, handed_back};
@@ -20,8 +19,8 @@ use terms::refusal::Refusal;
 
 // Performs a call, a step, a crash or a delivery.
 pub fn perform<C: Channel, K: Coins>(park: &mut Park<C, K>, act: Act) -> Result<Outcome, Refusal>
-    ensures does { Performs C.Channel K.Coins (view park.old) act result (view park.new) }
-    ensures promise { KeepsThePromise C.Channel K.Coins (view park.old) (performed act result) (view park.new) }
+    ensures does { Performs C.Channel K.Coins park.old act result park.new }
+    ensures promise { KeepsThePromise C.Channel K.Coins park.old (performed act result) park.new }
     ensures every_run { EveryRunKeepsThePromise C.Channel K.Coins }
 {
     act_on(park, act)
@@ -29,8 +28,8 @@ pub fn perform<C: Channel, K: Coins>(park: &mut Park<C, K>, act: Act) -> Result<
 
 // Tells the answer of controller p; the first collecting of a yes gives the permit.
 pub fn collect<C: Channel, K: Coins>(park: &mut Park<C, K>, p: u32) -> Result<Collected, Refusal>
-    ensures does { Collects (view park.old) p result (view park.new) }
-    ensures promise { KeepsThePromise C.Channel K.Coins (view park.old) (collected p result) (view park.new) }
+    ensures does { Collects park.old p result park.new }
+    ensures promise { KeepsThePromise C.Channel K.Coins park.old (collected p result) park.new }
 {
     park.collect(p)
 }
@@ -39,8 +38,8 @@ pub fn load<C: Channel, K: Coins>(
     park: &mut Park<C, K>,
     permit: HeldPermit,
 ) -> Result<LoadedPermit, Returned<HeldPermit>>
-    ensures does { AtDesk (λ desk. Loads desk permit) (view park.old) result (view park.new) }
-    ensures promise { KeepsThePromise C.Channel K.Coins (view park.old) (loaded permit result) (view park.new) }
+    ensures does { AtDesk (λ desk. Loads desk permit) park.old result park.new }
+    ensures promise { KeepsThePromise C.Channel K.Coins park.old (loaded permit result) park.new }
 {
     park.load(permit)
 }
@@ -49,8 +48,8 @@ pub fn dispatch<C: Channel, K: Coins>(
     park: &mut Park<C, K>,
     permit: LoadedPermit,
 ) -> Result<(), Returned<LoadedPermit>>
-    ensures does { AtDesk (λ desk. Dispatches desk permit) (view park.old) result (view park.new) }
-    ensures promise { KeepsThePromise C.Channel K.Coins (view park.old) (dispatched permit result) (view park.new) }
+    ensures does { AtDesk (λ desk. Dispatches desk permit) park.old result park.new }
+    ensures promise { KeepsThePromise C.Channel K.Coins park.old (dispatched permit result) park.new }
 {
     park.dispatch(permit)
 }
@@ -59,14 +58,14 @@ pub fn hand_back<C: Channel, K: Coins>(
     park: &mut Park<C, K>,
     permit: HeldPermit,
 ) -> Result<(), Returned<HeldPermit>>
-    ensures does { AtDesk (λ desk. HandsBack desk permit) (view park.old) result (view park.new) }
-    ensures promise { KeepsThePromise C.Channel K.Coins (view park.old) (handed_back permit result) (view park.new) }
+    ensures does { AtDesk (λ desk. HandsBack desk permit) park.old result park.new }
+    ensures promise { KeepsThePromise C.Channel K.Coins park.old (handed_back permit result) park.new }
 {
     park.hand_back(permit)
 }
 
 fn act_on<C: Channel, K: Coins>(park: &mut Park<C, K>, act: Act) -> Result<Outcome, Refusal>
-    ensures { Performs C.Channel K.Coins (view park.old) act result (view park.new) }
+    ensures { Performs C.Channel K.Coins park.old act result park.new }
 {
     match act {
         Act::Call(p) => as_advanced(park.call(p)),

@@ -1,6 +1,5 @@
 // A station collects its answer and, given the permit, loads and dispatches the vehicle.
 ghost use Rattle.std.specs.Prelude.{◌≡◌};
-ghost use Rattle.park.specs.States.{view};
 ghost use Rattle.story.specs.Crossings.{Crosses, HeldAt, sent_off};
 
 use channel::channel::Channel;
@@ -22,7 +21,7 @@ pub enum Crossing {
 
 // Controller p collects; a permit that it is given is spent at once.
 pub fn cross<C: Channel, K: Coins>(park: &mut Park<C, K>, p: u32) -> Crossing
-    ensures { Crosses (view park.old) p result (view park.new) }
+    ensures { Crosses park.old p result park.new }
 {
     let told = match collect(park, p) {
         Ok(told) => told,
@@ -40,8 +39,8 @@ pub fn cross<C: Channel, K: Coins>(park: &mut Park<C, K>, p: u32) -> Crossing
 
 // Loads and dispatches with a permit that was just given: neither is refused.
 fn send_off<C: Channel, K: Coins>(park: &mut Park<C, K>, permit: HeldPermit)
-    requires { HeldAt (view park.old).desk permit }
-    ensures { view park.new ≡ sent_off (view park.old) }
+    requires { HeldAt park.old.desk permit }
+    ensures { park.new ≡ sent_off park.old }
 {
     let loaded = match load(park, permit) {
         Ok(loaded) => loaded,

@@ -20,4 +20,4 @@ returns c =
     let rest : post_of 0 (n - 0) lent ≡ drop n lent = Post-is 0 n lent (omega arith) in
     let whole : c.fill.new.self ++ post_of 0 (n - 0) lent ≡ replicate n Empty ++ drop n xs = cc in
     let len : length (replicate n Empty ++ drop n xs) ≡ v.len = simp (length-append, length-drop, length-replicate) (omega arith) in
-    record { items = came_back v _ _ whole len; len = refl }
+    record { items = came_back v _ _ whole len; len = refl; block = refl }

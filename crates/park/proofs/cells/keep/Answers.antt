@@ -27,4 +27,4 @@ returns c =
     let whole : put_mid a k lent c.write_kept.new.pages ≡ keeping xs p at w = cc in
     let len : length (keeping xs p at w) ≡ v.len = simp length-set (omega arith) in
     let kept = c.write_kept.ensures.kept in
-    record { items = came_back v _ _ whole len; len = refl; kept = cc }
+    record { items = came_back v _ _ whole len; len = refl; block = refl; kept = cc }
