@@ -1,5 +1,4 @@
 // A call.
-ghost use Rattle.std.specs.Prelude.{◌≡◌};
 ghost use Rattle.park.specs.Asks.{Calls};
 
 use super::controller::Stage;
@@ -8,7 +7,6 @@ use channel::channel::Channel;
 use coins::Coins;
 use terms::answer::Progress;
 use terms::refusal::Refusal;
-use terms::word::{Place, Word};
 
 impl<C: Channel, K: Coins> Park<C, K> {
     // Controller p calls: it opens selector 1 with its own draw and its own name.
@@ -19,21 +17,7 @@ impl<C: Channel, K: Coins> Park<C, K> {
         let Stage::Uncalled = self.roster.get(p).stage else {
             return Err(Refusal::Called);
         };
-        let group = self.coins.draw_group(p, 1);
-        let place = Place {
-            selector: 1,
-            round: 1,
-            phase: 1,
-        };
-        self.advance(
-            p,
-            Progress::Opened(
-                place,
-                Word {
-                    group: Some(group),
-                    name: Some(p),
-                },
-            ),
-        )
+        let progress = self.opens_selector(p, 1);
+        self.advance(p, progress)
     }
 }

@@ -1,44 +1,34 @@
 // The cells of all controllers: one controller's pages are lent as a part of the table.
-ghost use Rattle.std.specs.Prelude.{◌≡◌, ℕ, ◌+◌, ◌*◌, ◌<◌, ◌≤◌, true, ◌++◌, length, drop, replicate, vec_len, slice_index_or, slice_set};
+ghost use Rattle.std.specs.Prelude.{◌≡◌, ℕ, ◌+◌, ◌*◌, ◌<◌, ◌≤◌, ◌++◌, length, drop, replicate, vec_len, slice_index_or, slice_set};
 ghost use Rattle.terms.specs.declared.word.Cell.TheVariants.{Empty, Holds};
-ghost use Rattle.terms.specs.Places.{within};
 ghost use Rattle.park.specs.Cells.{first_word, kept_word, keeping, saying};
 ghost use Rattle.park.specs.States.{block_of};
 
-use terms::word::{Cell, Place, Word};
+use super::within::PlaceWithin;
+use terms::word::{Cell, Word};
 
 // Controller p says a word at a place: it comes to its kept cell, and stands in its said cell. Gives the word that is kept.
-pub(crate) fn say(cells: &mut Vec<Cell>, p: u8, place: Place, word: Word) -> Word
+pub(crate) fn say(cells: &mut Vec<Cell>, p: u8, at: PlaceWithin, word: Word) -> Word
     requires name { (1 ≤ p) × (1024 * p ≤ vec_len cells.old) }
-    requires place { within place ≡ true }
-    ensures items { cells.new.items ≡ saying cells.old.items p place word }
+    ensures items { cells.new.items ≡ saying cells.old.items p at.place word }
     ensures len { vec_len cells.new ≡ vec_len cells.old }
     ensures block { block_of cells.new ≡ block_of cells.old }
-    ensures kept { result ≡ kept_word cells.old.items p place word }
+    ensures kept { result ≡ kept_word cells.old.items p at.place word }
 {
     let from = (p as usize - 1) * 1024;
-    write_both(&mut cells[from..from + 1024], index_within(place), word)
+    write_both(&mut cells[from..from + 1024], at.index(), word)
 }
 
 // A word comes to the kept cell of controller p at a place. Gives the word that is kept.
-pub(crate) fn keep(cells: &mut Vec<Cell>, p: u8, place: Place, word: Word) -> Word
+pub(crate) fn keep(cells: &mut Vec<Cell>, p: u8, at: PlaceWithin, word: Word) -> Word
     requires name { (1 ≤ p) × (1024 * p ≤ vec_len cells.old) }
-    requires place { within place ≡ true }
-    ensures items { cells.new.items ≡ keeping cells.old.items p place word }
+    ensures items { cells.new.items ≡ keeping cells.old.items p at.place word }
     ensures len { vec_len cells.new ≡ vec_len cells.old }
     ensures block { block_of cells.new ≡ block_of cells.old }
-    ensures kept { result ≡ kept_word cells.old.items p place word }
+    ensures kept { result ≡ kept_word cells.old.items p at.place word }
 {
     let from = (p as usize - 1) * 1024;
-    write_kept(&mut cells[from..from + 1024], index_within(place), word)
-}
-
-fn index_within(place: Place) -> usize
-    requires { within place ≡ true }
-    ensures value { result ≡ Rattle.park.specs.Cells.cell_of place }
-    ensures small { result < 512 }
-{
-    place.index()
+    write_kept(&mut cells[from..from + 1024], at.index(), word)
 }
 
 // The two pages of one controller.

@@ -1,11 +1,11 @@
 // What happens to one controller's record. Each function writes one record, in place.
 ghost use Rattle.std.specs.Prelude.{◌≡◌, ℕ, ◌-◌, ◌≤◌, true};
-ghost use Rattle.terms.specs.Places.{within};
 ghost use Rattle.park.specs.Placed.{placed};
 ghost use Rattle.park.specs.Controllers.{record_of, with_record, taken_down, answered, asking, after_echo};
 
 use super::controller::{Controller, Stage};
 use super::roster::Roster;
+use super::within::PlaceWithin;
 use terms::answer::Answer;
 use terms::heard::{has_heard, heard_alone, heard_also, is_majority};
 use terms::message::Message;
@@ -34,16 +34,15 @@ impl Roster {
         self.list[p as usize - 1].stage = Stage::Answered(answer);
     }
 
-    pub(crate) fn ask(&mut self, p: u8, place: Place, kept: Word)
+    pub(crate) fn ask(&mut self, p: u8, at: PlaceWithin, kept: Word)
         requires name { (1 ≤ p) × (p ≤ 15) }
-        requires place { within place ≡ true }
-        ensures { self.new.list ≡ with_record self.old.list p (asking (record_of self.old.list p) p place kept) }
+        ensures { self.new.list ≡ with_record self.old.list p (asking (record_of self.old.list p) p at.place kept) }
     {
-        let at = p as usize - 1;
-        let c = &mut self.list[at];
-        c.stage = Stage::Asking(place);
+        let own = p as usize - 1;
+        let c = &mut self.list[own];
+        c.stage = Stage::Asking(at.place);
         c.heard = heard_alone(p);
-        c.words[at] = kept;
+        c.words[own] = kept;
     }
 
     // An ECHO to a caller that asks at this place counts only if the caller waits, the ECHO is of that place, and its sender was not heard.

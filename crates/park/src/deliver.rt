@@ -6,6 +6,7 @@ ghost use Rattle.park.specs.Messages.{Accepts, Delivers, Receives};
 use super::cells::keep;
 use super::controller::Stage;
 use super::park::Park;
+use super::within::PlaceWithin;
 use channel::channel::Channel;
 use coins::Coins;
 use terms::message::{Kind, Message};
@@ -65,7 +66,7 @@ impl<C: Channel, K: Coins> Park<C, K> {
         requires free { length (C.Channel.bag self.old.channel) < C.Channel.places self.old.channel }
         ensures { Rattle.park.specs.Messages.Takes C.Channel Kind.Phase self.old m self.new }
     {
-        let kept = keep(&mut self.cells, m.receiver, m.place, m.word);
+        let kept = keep(&mut self.cells, m.receiver, PlaceWithin { place: m.place }, m.word);
         let echo = Message {
             kind: Kind::Echo,
             sender: m.receiver,

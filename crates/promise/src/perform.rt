@@ -1,8 +1,7 @@
 // Performing the acts on a park. Each contract says what the act does, and that the promise is kept in every run that leads to the park it is given.
-ghost use Rattle.std.specs.Prelude.{◌≡◌};
 ghost use Rattle.permit.specs.Acts.{Loads, Dispatches, HandsBack};
 ghost use Rattle.park.specs.Permits.{Collects, AtDesk};
-ghost use Rattle.promise.specs.Performs.{Performs, advanced, crashed, delivered};
+ghost use Rattle.promise.specs.Performs.{Performs};
 ghost use Rattle.promise.specs.Promise.{EveryRunKeepsThePromise, KeepsThePromise};
 ghost use Rattle.promise.specs.Runs.{performed, collected, loaded, dispatched, handed_back};
 
@@ -14,7 +13,6 @@ use park::park::Park;
 use permit::acts::Returned;
 use permit::held::HeldPermit;
 use permit::loaded::LoadedPermit;
-use terms::answer::Progress;
 use terms::refusal::Refusal;
 
 // Performs a call, a step, a crash or a delivery.
@@ -68,36 +66,9 @@ fn act_on<C: Channel, K: Coins>(park: &mut Park<C, K>, act: Act) -> Result<Outco
     ensures { Performs C.Channel K.Coins park.old act result park.new }
 {
     match act {
-        Act::Call(p) => as_advanced(park.call(p)),
-        Act::Step(p) => as_advanced(park.step(p)),
-        Act::Crash(p) => as_crashed(park.crash(p)),
-        Act::Deliver(pick) => as_delivered(park.deliver(pick)),
-    }
-}
-
-fn as_advanced(r: Result<Progress, Refusal>) -> Result<Outcome, Refusal>
-    ensures { result ≡ advanced r }
-{
-    match r {
-        Ok(progress) => Ok(Outcome::Advanced(progress)),
-        Err(refusal) => Err(refusal),
-    }
-}
-
-fn as_crashed(r: Result<(), Refusal>) -> Result<Outcome, Refusal>
-    ensures { result ≡ crashed r }
-{
-    match r {
-        Ok(()) => Ok(Outcome::Crashed),
-        Err(refusal) => Err(refusal),
-    }
-}
-
-fn as_delivered(r: Result<u8, Refusal>) -> Result<Outcome, Refusal>
-    ensures { result ≡ delivered r }
-{
-    match r {
-        Ok(receiver) => Ok(Outcome::Delivered(receiver)),
-        Err(refusal) => Err(refusal),
+        Act::Call(p) => park.call(p).map(Outcome::Advanced),
+        Act::Step(p) => park.step(p).map(Outcome::Advanced),
+        Act::Crash(p) => park.crash(p).map(|()| Outcome::Crashed),
+        Act::Deliver(pick) => park.deliver(pick).map(Outcome::Delivered),
     }
 }

@@ -19,15 +19,12 @@ pub returns : goal.returns
 returns g c =
     let s = c.args.self.now in
     let p = c.args.p in
-    let at = c.args.place in
+    let at = c.args.at.place in
     let few = c.self.inside.head.count.1 in
     let count = ap (λ (t : State _ _). t.n) c.self.view_is in
     let h = c.collect_heard-heard in
     let same = c.get-c.ensures.value ∙ ap (λ (t : State _ _). of t p) c.self.view_is in
     let gs = front_is (λ w. w.group) h.result.groups h.result.count c.self.inside.head.n s.n _ (of s p) count few same h.ensures.groups in
     let ns = front_is (λ w. w.name) h.result.names h.result.count c.self.inside.head.n s.n _ (of s p) count few same h.ensures.names in
-    record {
-      value = c.progress_by.ensures.value ∙ ap (λ (l : List (Option Side)). progress_after g.C.Channel g.K.Coins s p l (take (h.result.count - 0) h.result.names) at) gs
-          ∙ ap (λ (l : List (Option ℕ)). progress_after g.C.Channel g.K.Coins s p (heard_groups s.n (of s p).heard (of s p).words) l at) ns;
-      within = c.progress_by.ensures.within;
-    }
+    c.progress_by.ensures ∙ ap (λ (l : List (Option Side)). progress_after g.C.Channel g.K.Coins s p l (take (h.result.count - 0) h.result.names) at) gs
+          ∙ ap (λ (l : List (Option ℕ)). progress_after g.C.Channel g.K.Coins s p (heard_groups s.n (of s p).heard (of s p).words) l at) ns
