@@ -1,4 +1,5 @@
 // The cells of all controllers: one controller's pages are lent as a part of the table.
+// kept: a name, a place and a word as three parameters: a struct of them would only be taken apart again, since p says the word in one function and keeps another's in the other.
 ghost use Rattle.std.specs.Prelude.{◌≡◌, ℕ, ◌+◌, ◌*◌, ◌<◌, ◌≤◌, ◌++◌, length, drop, replicate, vec_len, slice_index_or, slice_set};
 ghost use Rattle.terms.specs.declared.word.Cell.TheVariants.{Empty, Holds};
 ghost use Rattle.park.specs.Cells.{first_word, kept_word, keeping, saying};
@@ -68,6 +69,5 @@ pub(crate) fn empty_first(cells: &mut Vec<Cell>, all: usize)
     ensures len { vec_len cells.new ≡ vec_len cells.old }
     ensures block { block_of cells.new ≡ block_of cells.old }
 {
-    let part = &mut cells[0..all];
-    part.fill(Cell::Empty);
+    cells[0..all].fill(Cell::Empty);
 }

@@ -24,10 +24,7 @@ impl<C: Channel, K: Coins> Park<C, K> {
             return Err(Refusal::NoAnswer);
         };
         match answer {
-            Answer::Yes => match self.desk.give() {
-                Some(permit) => Ok(Collected::Yes(permit)),
-                None => Err(Refusal::Taken),
-            },
+            Answer::Yes => self.desk.give().map(Collected::Yes).ok_or(Refusal::Taken),
             Answer::No => Ok(Collected::No),
             Answer::Undecided => Ok(Collected::Undecided),
         }

@@ -1,4 +1,5 @@
 // What happens to one controller's record. Each function writes one record, in place.
+// kept: each function reaches into the list by itself, since what a `&mut` into an array lends gets no proof.
 ghost use Rattle.std.specs.Prelude.{◌≡◌, ℕ, ◌-◌, ◌≤◌, true};
 ghost use Rattle.park.specs.Placed.{placed};
 ghost use Rattle.park.specs.Controllers.{record_of, with_record, taken_down, answered, asking, after_echo};
@@ -12,6 +13,7 @@ use terms::message::Message;
 use terms::word::{Place, Word};
 
 impl Roster {
+    #[tactic(auto, using(crate::proofs::Records::record_placed))]
     pub(crate) fn get(&self, p: u8) -> &Controller
         requires name { (1 ≤ p) × (p ≤ 15) }
         ensures value { result.now ≡ record_of self.now.list p }
@@ -20,6 +22,7 @@ impl Roster {
         &self.list[p as usize - 1]
     }
 
+    #[tactic(auto, using(crate::proofs::Records::record_placed, crate::proofs::Records::write_placed))]
     pub(crate) fn take_down(&mut self, p: u8)
         requires name { (1 ≤ p) × (p ≤ 15) }
         ensures { self.new.list ≡ with_record self.old.list p (taken_down (record_of self.old.list p)) }
@@ -27,6 +30,7 @@ impl Roster {
         self.list[p as usize - 1].up = false;
     }
 
+    #[tactic(auto, using(crate::proofs::Records::write_placed))]
     pub(crate) fn answer(&mut self, p: u8, answer: Answer)
         requires name { (1 ≤ p) × (p ≤ 15) }
         ensures { self.new.list ≡ with_record self.old.list p (answered (record_of self.old.list p) answer) }
@@ -34,6 +38,7 @@ impl Roster {
         self.list[p as usize - 1].stage = Stage::Answered(answer);
     }
 
+    #[tactic(auto, using(crate::proofs::Records::write_placed))]
     pub(crate) fn ask(&mut self, p: u8, at: PlaceWithin, kept: Word)
         requires name { (1 ≤ p) × (p ≤ 15) }
         ensures { self.new.list ≡ with_record self.old.list p (asking (record_of self.old.list p) p at.place kept) }
@@ -46,6 +51,7 @@ impl Roster {
     }
 
     // An ECHO to a caller that asks at this place counts only if the caller waits, the ECHO is of that place, and its sender was not heard.
+    #[tactic(auto, using(crate::proofs::Records::record_placed, crate::proofs::Records::write_placed))]
     pub(crate) fn hear(&mut self, majority: u8, place: Place, m: Message)
         requires receiver { (1 ≤ m.receiver) × (m.receiver ≤ 15) }
         requires sender { (1 ≤ m.sender) × (m.sender ≤ 15) }

@@ -1,7 +1,7 @@
 // A delivery, and a message that is handed to one controller.
-ghost use Rattle.std.specs.Prelude.{◌≡◌, ℕ, ◌<◌, ◌≤◌, true, length, MatchOption};
+ghost use Rattle.std.specs.Prelude.{◌≡◌, ℕ, ◌<◌, true, length};
 ghost use Rattle.terms.specs.Places.{well_formed};
-ghost use Rattle.park.specs.Messages.{Accepts, Delivers, Receives};
+ghost use Rattle.park.specs.Messages.{Accepts, Delivers, Receives, Takes};
 
 use super::cells::keep;
 use super::controller::Stage;
@@ -61,10 +61,9 @@ impl<C: Channel, K: Coins> Park<C, K> {
 
     // Keeps the word of a PHASE, if its cell is empty, and sends ECHO with the kept word to its sender.
     fn keep_and_echo(&mut self, m: Message)
-        requires name { (1 ≤ m.receiver) × (m.receiver ≤ self.old.n) }
-        requires place { Rattle.terms.specs.Places.within m.place ≡ true }
+        requires formed { well_formed self.old.n m ≡ true }
         requires free { length (C.Channel.bag self.old.channel) < C.Channel.places self.old.channel }
-        ensures { Rattle.park.specs.Messages.Takes C.Channel Kind.Phase self.old m self.new }
+        ensures { Takes C.Channel Kind.Phase self.old m self.new }
     {
         let kept = keep(&mut self.cells, m.receiver, PlaceWithin { place: m.place }, m.word);
         let echo = Message {

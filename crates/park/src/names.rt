@@ -1,4 +1,5 @@
 // Finding a controller by the number that a host gives.
+// kept: that a name is one of the park's is a clause of the private functions that take it. A type of names would leave p ≤ n to them, since n is the park's, and the names in a message would have to be made into it first.
 ghost use Rattle.std.specs.Prelude.{◌≡◌, ℕ, ◌≤◌, true, false, Some, None, MatchOption, MatchResult};
 ghost use Rattle.park.specs.Refusals.{name_refusal, no_such_name};
 
