@@ -5,30 +5,31 @@ ghost use Rattle.terms.specs.declared.word.Cell.TheVariants.{Empty, Holds};
 ghost use Rattle.park.specs.Cells.{first_word, kept_word, keeping, saying};
 ghost use Rattle.park.specs.States.{block_of};
 
+use super::names::Name;
 use super::within::PlaceWithin;
 use terms::word::{Cell, Word};
 
 // Controller p says a word at a place: it comes to its kept cell, and stands in its said cell. Gives the word that is kept.
-pub(crate) fn say(cells: &mut Vec<Cell>, p: u8, at: PlaceWithin, word: Word) -> Word
-    requires name { (1 ≤ p) × (1024 * p ≤ vec_len cells.old) }
-    ensures items { cells.new.items ≡ saying cells.old.items p at.place word }
+pub(crate) fn say(cells: &mut Vec<Cell>, p: Name, at: PlaceWithin, word: Word) -> Word
+    requires name { 1024 * p.number ≤ vec_len cells.old }
+    ensures items { cells.new.items ≡ saying cells.old.items p.number at.place word }
     ensures len { vec_len cells.new ≡ vec_len cells.old }
     ensures block { block_of cells.new ≡ block_of cells.old }
-    ensures kept { result ≡ kept_word cells.old.items p at.place word }
+    ensures kept { result ≡ kept_word cells.old.items p.number at.place word }
 {
-    let from = (p as usize - 1) * 1024;
+    let from = p.index() * 1024;
     write_both(&mut cells[from..from + 1024], at.index(), word)
 }
 
 // A word comes to the kept cell of controller p at a place. Gives the word that is kept.
-pub(crate) fn keep(cells: &mut Vec<Cell>, p: u8, at: PlaceWithin, word: Word) -> Word
-    requires name { (1 ≤ p) × (1024 * p ≤ vec_len cells.old) }
-    ensures items { cells.new.items ≡ keeping cells.old.items p at.place word }
+pub(crate) fn keep(cells: &mut Vec<Cell>, p: Name, at: PlaceWithin, word: Word) -> Word
+    requires name { 1024 * p.number ≤ vec_len cells.old }
+    ensures items { cells.new.items ≡ keeping cells.old.items p.number at.place word }
     ensures len { vec_len cells.new ≡ vec_len cells.old }
     ensures block { block_of cells.new ≡ block_of cells.old }
-    ensures kept { result ≡ kept_word cells.old.items p at.place word }
+    ensures kept { result ≡ kept_word cells.old.items p.number at.place word }
 {
-    let from = (p as usize - 1) * 1024;
+    let from = p.index() * 1024;
     write_kept(&mut cells[from..from + 1024], at.index(), word)
 }
 

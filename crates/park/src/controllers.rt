@@ -5,6 +5,7 @@ ghost use Rattle.park.specs.Placed.{placed};
 ghost use Rattle.park.specs.Controllers.{record_of, with_record, taken_down, answered, asking, after_echo};
 
 use super::controller::{Controller, Stage};
+use super::names::Name;
 use super::roster::Roster;
 use super::within::PlaceWithin;
 use terms::answer::Answer;
@@ -14,39 +15,35 @@ use terms::word::{Place, Word};
 
 impl Roster {
     #[tactic(auto, using(crate::proofs::Records::record_placed))]
-    pub(crate) fn get(&self, p: u8) -> &Controller
-        requires name { (1 ≤ p) × (p ≤ 15) }
-        ensures value { result.now ≡ record_of self.now.list p }
+    pub(crate) fn get(&self, p: Name) -> &Controller
+        ensures value { result.now ≡ record_of self.now.list p.number }
         ensures placed { placed result.now.stage ≡ true }
     {
-        &self.list[p as usize - 1]
+        &self.list[p.index()]
     }
 
     #[tactic(auto, using(crate::proofs::Records::record_placed, crate::proofs::Records::write_placed))]
-    pub(crate) fn take_down(&mut self, p: u8)
-        requires name { (1 ≤ p) × (p ≤ 15) }
-        ensures { self.new.list ≡ with_record self.old.list p (taken_down (record_of self.old.list p)) }
+    pub(crate) fn take_down(&mut self, p: Name)
+        ensures { self.new.list ≡ with_record self.old.list p.number (taken_down (record_of self.old.list p.number)) }
     {
-        self.list[p as usize - 1].up = false;
+        self.list[p.index()].up = false;
     }
 
     #[tactic(auto, using(crate::proofs::Records::write_placed))]
-    pub(crate) fn answer(&mut self, p: u8, answer: Answer)
-        requires name { (1 ≤ p) × (p ≤ 15) }
-        ensures { self.new.list ≡ with_record self.old.list p (answered (record_of self.old.list p) answer) }
+    pub(crate) fn answer(&mut self, p: Name, answer: Answer)
+        ensures { self.new.list ≡ with_record self.old.list p.number (answered (record_of self.old.list p.number) answer) }
     {
-        self.list[p as usize - 1].stage = Stage::Answered(answer);
+        self.list[p.index()].stage = Stage::Answered(answer);
     }
 
     #[tactic(auto, using(crate::proofs::Records::write_placed))]
-    pub(crate) fn ask(&mut self, p: u8, at: PlaceWithin, kept: Word)
-        requires name { (1 ≤ p) × (p ≤ 15) }
-        ensures { self.new.list ≡ with_record self.old.list p (asking (record_of self.old.list p) p at.place kept) }
+    pub(crate) fn ask(&mut self, p: Name, at: PlaceWithin, kept: Word)
+        ensures { self.new.list ≡ with_record self.old.list p.number (asking (record_of self.old.list p.number) p.number at.place kept) }
     {
-        let own = p as usize - 1;
+        let own = p.index();
         let c = &mut self.list[own];
         c.stage = Stage::Asking(at.place);
-        c.heard = heard_alone(p);
+        c.heard = heard_alone(p.number);
         c.words[own] = kept;
     }
 

@@ -5,6 +5,7 @@ ghost use Rattle.park.specs.Messages.{Accepts, Delivers, Receives, Takes};
 
 use super::cells::keep;
 use super::controller::Stage;
+use super::names::Name;
 use super::park::Park;
 use super::within::PlaceWithin;
 use channel::channel::Channel;
@@ -35,7 +36,7 @@ impl<C: Channel, K: Coins> Park<C, K> {
         if m.is_phase() && self.channel.count_free() == 0 {
             return Err(Refusal::NoPlace);
         }
-        if !m.is_well_formed(self.head.n) || m.receiver != p {
+        if !m.is_well_formed(self.head.n) || m.receiver != p.number {
             return Err(Refusal::Message);
         }
         self.accept(m);
@@ -48,7 +49,7 @@ impl<C: Channel, K: Coins> Park<C, K> {
         requires free { m.kind ≡ Kind.Phase → length (C.Channel.bag self.old.channel) < C.Channel.places self.old.channel }
         ensures { Accepts C.Channel self.old m self.new }
     {
-        let receiver = self.roster.get(m.receiver);
+        let receiver = self.roster.get(Name { number: m.receiver });
         if !receiver.up {
             return;
         }
@@ -65,7 +66,7 @@ impl<C: Channel, K: Coins> Park<C, K> {
         requires free { length (C.Channel.bag self.old.channel) < C.Channel.places self.old.channel }
         ensures { Takes C.Channel Kind.Phase self.old m self.new }
     {
-        let kept = keep(&mut self.cells, m.receiver, PlaceWithin { place: m.place }, m.word);
+        let kept = keep(&mut self.cells, Name { number: m.receiver }, PlaceWithin { place: m.place }, m.word);
         let echo = Message {
             kind: Kind::Echo,
             sender: m.receiver,

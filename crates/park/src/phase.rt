@@ -4,6 +4,7 @@ ghost use Rattle.park.specs.Asks.{Opens, Advances};
 
 use super::broadcast::send_to_others;
 use super::cells::say;
+use super::names::Name;
 use super::park::Park;
 use super::within::{PlaceWithin, ProgressWithin};
 use channel::channel::Channel;
@@ -14,9 +15,9 @@ use terms::word::Word;
 
 impl<C: Channel, K: Coins> Park<C, K> {
     // Opens a phase, if enough places are free, or gives the answer.
-    pub(crate) fn advance(&mut self, p: u8, next: ProgressWithin) -> Result<Progress, Refusal>
-        requires name { (1 ≤ p) × (p ≤ self.old.n) }
-        ensures { Advances C.Channel K.Coins self.old p next.progress result self.new }
+    pub(crate) fn advance(&mut self, p: Name, next: ProgressWithin) -> Result<Progress, Refusal>
+        requires name { p.number ≤ self.old.n }
+        ensures { Advances C.Channel K.Coins self.old p.number next.progress result self.new }
     {
         match next.progress {
             Progress::Opened(place, word) => {
@@ -31,10 +32,10 @@ impl<C: Channel, K: Coins> Park<C, K> {
     }
 
     // Says the word, hears itself alone, and sends PHASE to the others.
-    fn open_phase(&mut self, p: u8, at: PlaceWithin, word: Word)
-        requires name { (1 ≤ p) × (p ≤ self.old.n) }
+    fn open_phase(&mut self, p: Name, at: PlaceWithin, word: Word)
+        requires name { p.number ≤ self.old.n }
         requires free { self.old.n + length (C.Channel.bag self.old.channel) ≤ C.Channel.places self.old.channel + 1 }
-        ensures { Opens C.Channel K.Coins self.old p at.place word self.new }
+        ensures { Opens C.Channel K.Coins self.old p.number at.place word self.new }
     {
         let kept = say(&mut self.cells, p, at, word);
         self.roster.ask(p, at, kept);

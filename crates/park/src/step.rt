@@ -6,6 +6,7 @@ ghost use Rattle.park.specs.States.{of};
 ghost use Rattle.park.specs.Stays.{NextFits};
 
 use super::controller::Stage;
+use super::names::Name;
 use super::park::Park;
 use super::within::{PlaceWithin, ProgressWithin};
 use channel::channel::Channel;
@@ -30,9 +31,8 @@ impl<C: Channel, K: Coins> Park<C, K> {
     }
 
     // Where controller p is ready.
-    fn ready_place(&self, p: u8) -> Option<PlaceWithin>
-        requires name { (1 ≤ p) × (p ≤ self.now.n) }
-        ensures { option_map (λ at. at.place) result ≡ ready_at self.now.majority (of self.now p) }
+    fn ready_place(&self, p: Name) -> Option<PlaceWithin>
+        ensures { option_map (λ at. at.place) result ≡ ready_at self.now.majority (of self.now p.number) }
     {
         let c = self.roster.get(p);
         match c.stage {
@@ -44,9 +44,8 @@ impl<C: Channel, K: Coins> Park<C, K> {
     }
 
     // What a step of controller p from this place comes to, by what it heard there.
-    fn progress(&self, p: u8, at: PlaceWithin) -> ProgressWithin
-        requires name { (1 ≤ p) × (p ≤ self.now.n) }
-        ensures { result.progress ≡ progress_from C.Channel K.Coins self.now p at.place }
+    fn progress(&self, p: Name, at: PlaceWithin) -> ProgressWithin
+        ensures { result.progress ≡ progress_from C.Channel K.Coins self.now p.number at.place }
     {
         let c = self.roster.get(p);
         let heard = collect_heard(self.head.n, c.heard, &c.words);
@@ -60,12 +59,12 @@ impl<C: Channel, K: Coins> Park<C, K> {
 
     fn progress_by(
         &self,
-        p: u8,
+        p: Name,
         at: PlaceWithin,
         groups: &[Option<Side>],
         names: &[Option<u8>],
     ) -> ProgressWithin
-        ensures { result.progress ≡ progress_after C.Channel K.Coins self.now p groups.now names.now at.place }
+        ensures { result.progress ≡ progress_after C.Channel K.Coins self.now p.number groups.now names.now at.place }
     {
         let Place {
             selector,
@@ -82,16 +81,16 @@ impl<C: Channel, K: Coins> Park<C, K> {
                 progress: Progress::Opened(place, word_of_phase_2(groups, names)),
             };
         }
-        let own = self.coins.draw_group(p, selector);
+        let own = self.coins.draw_group(p.number, selector);
         let coin = self.coins.draw_coin(selector, round);
-        let verdict = verdict_of_phase_2(p, own, round, coin, groups, names);
+        let verdict = verdict_of_phase_2(p.number, own, round, coin, groups, names);
         self.opening_of(p, at, test_and_set(selector, round, verdict))
     }
 
     // The answer, or the phase that follows this place.
-    fn opening_of(&self, p: u8, at: PlaceWithin, next: Next) -> ProgressWithin
+    fn opening_of(&self, p: Name, at: PlaceWithin, next: Next) -> ProgressWithin
         requires next { NextFits at.place next }
-        ensures { result.progress ≡ goes_to C.Channel K.Coins self.now p at.place next }
+        ensures { result.progress ≡ goes_to C.Channel K.Coins self.now p.number at.place next }
     {
         match next {
             Next::Answer(answer) => ProgressWithin {
@@ -115,9 +114,9 @@ impl<C: Channel, K: Coins> Park<C, K> {
     }
 
     // The first phase of a selector, which controller p opens with its own draw and its own name.
-    pub(crate) fn opens_selector(&self, p: u8, selector: u8) -> ProgressWithin
+    pub(crate) fn opens_selector(&self, p: Name, selector: u8) -> ProgressWithin
         requires { (1 ≤ selector) × (selector ≤ 16) }
-        ensures { result.progress ≡ opens_selector C.Channel K.Coins self.now p selector }
+        ensures { result.progress ≡ opens_selector C.Channel K.Coins self.now p.number selector }
     {
         let place = Place {
             selector,
@@ -125,8 +124,8 @@ impl<C: Channel, K: Coins> Park<C, K> {
             phase: 1,
         };
         let word = Word {
-            group: Some(self.coins.draw_group(p, selector)),
-            name: Some(p),
+            group: Some(self.coins.draw_group(p.number, selector)),
+            name: Some(p.number),
         };
         ProgressWithin {
             progress: Progress::Opened(place, word),

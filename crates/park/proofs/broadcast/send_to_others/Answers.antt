@@ -8,7 +8,7 @@ use Rattle.park.proofs.broadcast.send_to_others.Goals.{then-q-p, else-q-p}
 pub loop-q-preserved : goal.loop-q-preserved
 loop-q-preserved g c =
     let q = c.loop-q.q in
-    let p = c.args.p in
+    let p = c.args.p.number in
     let at = c.args.place in
     let w = c.args.word in
     let ch = g.C.Channel in
@@ -17,14 +17,14 @@ loop-q-preserved g c =
     subst (λ (i : ℕ). SentAll ch.sends first (phases i p at w) c.if-q-p.channel) next
     (elim c.if-q-p.branch [
     then-q-p b ↦ subst (λ (d : g.row.C.Denot). SentAll ch.sends first (phases q p at w) d) (sym b.channel-is)
-      (sent_other p at w ch.sends ch.bag ch.places g.met.C.Channel.gains c.args.n q first c.loop-q.channel b.send.new.self c.requires.name.0 c.requires.name.1 c.loop-q.auto.q c.loop-q-test.true b.if-q-p.true c.requires.free c.loop-q.invariant (λ free. (b.send.ensures.accepted free).1))
+      (sent_other p at w ch.sends ch.bag ch.places g.met.C.Channel.gains c.args.n q first c.loop-q.channel b.send.new.self c.args.p.named.0 c.requires.name c.loop-q.auto.q c.loop-q-test.true b.if-q-p.true c.requires.free c.loop-q.invariant (λ free. (b.send.ensures.accepted free).1))
   | else-q-p b ↦ subst (λ (d : g.row.C.Denot). SentAll ch.sends first (phases q p at w) d) (sym b.channel-is)
       (sent_self p at w ch.sends ch.bag ch.places g.met.C.Channel.gains q first c.loop-q.channel c.loop-q.auto.q b.if-q-p.false c.loop-q.invariant) ])
 
 pub returns-after-q-p : goal.returns-after-q-p
 returns-after-q-p g c =
     let q = c.loop-q.q in
-    let p = c.args.p in
+    let p = c.args.p.number in
     let at = c.args.place in
     let w = c.args.word in
     let ch = g.C.Channel in
@@ -33,6 +33,6 @@ returns-after-q-p g c =
     subst (λ (i : ℕ). SentAll ch.sends first (phases i p at w) c.if-q-p.channel) last
     (elim c.if-q-p.branch [
     then-q-p b ↦ subst (λ (d : g.row.C.Denot). SentAll ch.sends first (phases q p at w) d) (sym b.channel-is)
-      (sent_other p at w ch.sends ch.bag ch.places g.met.C.Channel.gains c.args.n q first c.loop-q.channel b.send.new.self c.requires.name.0 c.requires.name.1 c.loop-q.auto.q c.loop-q-test.true b.if-q-p.true c.requires.free c.loop-q.invariant (λ free. (b.send.ensures.accepted free).1))
+      (sent_other p at w ch.sends ch.bag ch.places g.met.C.Channel.gains c.args.n q first c.loop-q.channel b.send.new.self c.args.p.named.0 c.requires.name c.loop-q.auto.q c.loop-q-test.true b.if-q-p.true c.requires.free c.loop-q.invariant (λ free. (b.send.ensures.accepted free).1))
   | else-q-p b ↦ subst (λ (d : g.row.C.Denot). SentAll ch.sends first (phases q p at w) d) (sym b.channel-is)
       (sent_self p at w ch.sends ch.bag ch.places g.met.C.Channel.gains q first c.loop-q.channel c.loop-q.auto.q b.if-q-p.false c.loop-q.invariant) ])

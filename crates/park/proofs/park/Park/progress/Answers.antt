@@ -18,7 +18,7 @@ front_is entry xs count m n c d i few e h =
 pub returns : goal.returns
 returns g c =
     let s = c.args.self.now in
-    let p = c.args.p in
+    let p = c.args.p.number in
     let at = c.args.at.place in
     let few = c.self.inside.head.count.1 in
     let count = ap (λ (t : State _ _). t.n) c.self.view_is in
