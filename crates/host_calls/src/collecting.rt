@@ -1,5 +1,4 @@
 // Answers that are collected.
-ghost use Rattle.park.specs.States.{view};
 ghost use Rattle.permit.specs.Acts.{HeldAt};
 
 use super::host::Host;
@@ -73,7 +72,7 @@ fn collect_and_spend<F: FnOnce(&mut Park<Line, Seeded>, HeldPermit) -> Spent>(
     p: u32,
     spend: F,
 ) -> io::Result<()>
-    requires { (at : _) (permit : _) → HeldAt (view at.now).desk permit → F.pre spend at permit }
+    requires { (at : _) (permit : _) → HeldAt at.now.desk permit → F.pre spend at permit }
 {
     let rt = host.rt;
     print!(rt; "collect {p}: ")?;

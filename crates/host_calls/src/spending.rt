@@ -1,5 +1,4 @@
 // What becomes of a permit in its own park: it is loaded and dispatched, or handed back.
-ghost use Rattle.park.specs.States.{view};
 ghost use Rattle.permit.specs.Acts.{HeldAt};
 
 use channel::channel::Channel;
@@ -28,7 +27,7 @@ pub(crate) fn load_and_dispatch<C: Channel, K: Coins>(
     park: &mut Park<C, K>,
     permit: HeldPermit,
 ) -> Spent
-    requires { HeldAt (view park.old).desk permit }
+    requires { HeldAt park.old.desk permit }
 {
     let given = park.permit_stage();
     let permit = load(park, permit).unwrap();
@@ -43,7 +42,7 @@ pub(crate) fn load_and_dispatch<C: Channel, K: Coins>(
 
 // Hands back a permit that this park has given.
 pub(crate) fn give_up<C: Channel, K: Coins>(park: &mut Park<C, K>, permit: HeldPermit) -> Spent
-    requires { HeldAt (view park.old).desk permit }
+    requires { HeldAt park.old.desk permit }
 {
     let given = park.permit_stage();
     hand_back(park, permit).unwrap();

@@ -1,3 +1,4 @@
 pub mod Parts
 pub mod Phases
 pub mod Received
+pub mod Records

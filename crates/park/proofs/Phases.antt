@@ -1,6 +1,10 @@
 -- The list of PHASEs, one name further, and places for them.
-use Rattle.std.proofs.Common.{◌≡◌, ℕ, zero, suc, ◌+◌, ◌<◌, ◌≤◌, true, false, cond, eqb, [], ◌∷◌, ◌++◌, length, refl, ⊎_elim, add-one, arith, length-append, eq-eqb, ne_eqb}
+use Rattle.std.proofs.Common.{◌≡◌, ℕ, zero, suc, ◌+◌, ◌-◌, ◌<◌, ◌≤◌, true, false, cond, eqb, List, [], ◌∷◌, ◌++◌, length, refl, sym, subst, ⊎_elim, add-one, arith, length-append, eq-eqb, ne_eqb}
 use Rattle.std.proofs.lemmas.Bool.{cases_eq, cases_lt}
+use Rattle.channel.proofs.Sends.{sent_more, sent_count}
+use Rattle.channel.specs.Meaning.{SameBag}
+use Rattle.channel.specs.Sends.{SentAll}
+use Rattle.terms.specs.declared.message.Message.{Message}
 use Rattle.terms.specs.declared.word.Place.{Place}
 use Rattle.terms.specs.declared.word.Word.{Word}
 use Rattle.park.specs.Asks.{phases, phase_to}
@@ -37,3 +41,24 @@ module _ (p : ℕ) (at : Place) (w : Word) where
   phase_fits n i k waits waited a b c ne room e =
       let x = phases_length i in
       ⊎_elim (λ (h : i < p). omega arith) (λ (h : p ≤ i). let y = phases_under i a h in omega arith) (cases_lt i p)
+
+  -- PHASE has gone to the names below q, and now to q too, if that is another's
+  module _ {C : Type 0} (sends : C → Message → C → Type 0) (bag : C → List Message) (places : C → ℕ)
+           (gains : (c : C) (m : Message) (d : C) → sends c m d → SameBag (m ∷ bag c) (bag d) × (places d ≡ places c)) where
+    pub sent_self : (q : ℕ) (first now : C) → 1 ≤ q → q ≡ p → SentAll sends first (phases (q - 1) p at w) now → SentAll sends first (phases q p at w) now
+    sent_self q first now a e before =
+        let i : q - 1 + 1 ≡ q = omega arith in
+        let same : phases (q - 1 + 1) p at w ≡ phases (q - 1) p at w = phases_self (q - 1) (omega arith) in
+        subst (λ (j : ℕ). SentAll sends first (phases j p at w) now) i (subst (λ (l : List Message). SentAll sends first l now) (sym same) before)
+
+    pub sent_other : (n q : ℕ) (first now then : C) → 1 ≤ p → p ≤ n → 1 ≤ q → q ≤ n → (q ≡ p → ⊥) → n + length (bag first) ≤ places first + 1
+        → SentAll sends first (phases (q - 1) p at w) now → (length (bag now) < places now → sends now (phase_to p q at w) then) → SentAll sends first (phases q p at w) then
+    sent_other n q first now then a b c d ne room before send =
+        let i : q - 1 + 1 ≡ q = omega arith in
+        let other : q - 1 + 1 ≡ p → ⊥ = λ e. ne (omega arith) in
+        let count = sent_count sends bag places gains (phases (q - 1) p at w) first now before in
+        let more = phases_other (q - 1) other in
+        let free : length (bag now) < places now = subst (λ (k : ℕ). length (bag now) < k) (sym count.1) (phase_fits n (q - 1) (places first) _ _ a b (omega arith) other room count.0) in
+        let sent : sends now (phase_to p (q - 1 + 1) at w) then = subst (λ (j : ℕ). sends now (phase_to p j at w) then) (sym i) (send free) in
+        subst (λ (j : ℕ). SentAll sends first (phases j p at w) then) i (subst (λ (l : List Message). SentAll sends first l then) (sym more)
+        (sent_more sends (phases (q - 1) p at w) first now then (phase_to p (q - 1 + 1) at w) before sent))

@@ -57,6 +57,7 @@ module _ {C K : Type 0} (ch : channel.Ghosts C) (co : coins.Ghosts K) where
     desk = s.desk;
     controllers = with_record s.controllers p (asking (of s p) p at (kept_word s.cells p at w));
     cells = saying s.cells p at w;
+    block = s.block;
     channel = channel;
     coins = s.coins;
   }

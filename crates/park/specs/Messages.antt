@@ -30,6 +30,7 @@ module _ {C K : Type 0} (ch : channel.Ghosts C) where
     desk = s.desk;
     controllers = s.controllers;
     cells = keeping s.cells m.receiver m.place m.word;
+    block = s.block;
     channel = channel;
     coins = s.coins;
   }

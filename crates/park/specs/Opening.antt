@@ -14,7 +14,7 @@ use Rattle.park.specs.declared.park.Park.{Park}
 use Rattle.park.specs.declared.park.Supplies.{Supplies}
 use Rattle.park.specs.Controllers.{uncalled}
 use Rattle.park.specs.Refusals.{first, when}
-use Rattle.park.specs.States.{State, view}
+use Rattle.park.specs.States.{Block, State, block_of}
 
 abbrev pub all_uncalled : List Controller
 all_uncalled = replicate 15 uncalled
@@ -29,25 +29,26 @@ module _ {C : Type 0} (ch : channel.Ghosts C) where
 
 module _ {C K : Type 0} where
   -- just opened: the first 1,024 × n cells are empty and the others as they were, and nobody has called
-  abbrev pub fresh : ℕ → ℕ → List Cell → C → K → State C K
-  fresh n vehicle cells c k = record {
+  abbrev pub fresh : ℕ → ℕ → List Cell → Block → C → K → State C K
+  fresh n vehicle cells block c k = record {
     n = n;
     majority = majority_of n;
     desk = new_desk vehicle;
     controllers = all_uncalled;
     cells = replicate (1024 * n) Empty ++ drop (1024 * n) cells;
+    block = block;
     channel = c;
     coins = k;
   }
 
   -- closing gives back what the park holds
-  abbrev pub held : Park C K → Supplies C K
-  held park = record { cells = park.cells; channel = park.channel; coins = park.coins }
+  abbrev pub GivesBack : State C K → Supplies C K → Type 0
+  GivesBack s given = (vec_items given.cells ≡ s.cells) × (block_of given.cells ≡ s.block) × (given.channel ≡ s.channel) × (given.coins ≡ s.coins)
 
   -- a refused opening gives everything back as it was
   abbrev pub OpensUnless : Option Refusal → ℕ → ℕ → Supplies C K → Result (Park C K) (NotOpened C K) → Type 0
   OpensUnless (Some e) n vehicle given r = r ≡ Err (record { refusal = e; supplies = given })
-  OpensUnless None n vehicle given (Ok park) = view park ≡ fresh n vehicle (vec_items given.cells) given.channel given.coins
+  OpensUnless None n vehicle given (Ok park) = park ≡ fresh n vehicle (vec_items given.cells) (block_of given.cells) given.channel given.coins
   OpensUnless None n vehicle given (Err back) = ⊥
 
   abbrev pub Opening : channel.Ghosts C → ℕ → ℕ → Supplies C K → Result (Park C K) (NotOpened C K) → Type 0

@@ -1,7 +1,5 @@
 // A call.
-ghost use Rattle.std.specs.Prelude.{◌≡◌};
 ghost use Rattle.park.specs.Asks.{Calls};
-ghost use Rattle.park.specs.States.{view};
 
 use super::controller::Stage;
 use super::park::Park;
@@ -9,35 +7,17 @@ use channel::channel::Channel;
 use coins::Coins;
 use terms::answer::Progress;
 use terms::refusal::Refusal;
-use terms::word::{Place, Word};
 
 impl<C: Channel, K: Coins> Park<C, K> {
     // Controller p calls: it opens selector 1 with its own draw and its own name.
     pub fn call(&mut self, p: u32) -> Result<Progress, Refusal>
-        ensures { Calls C.Channel K.Coins (view self.old) p result (view self.new) }
+        ensures { Calls C.Channel K.Coins self.old p result self.new }
     {
-        let p = match self.find_up(p) {
-            Ok(p) => p,
-            Err(refusal) => return Err(refusal),
-        };
+        let p = self.find_up(p)?;
         let Stage::Uncalled = self.roster.get(p).stage else {
             return Err(Refusal::Called);
         };
-        let group = self.coins.draw_group(p, 1);
-        let place = Place {
-            selector: 1,
-            round: 1,
-            phase: 1,
-        };
-        self.advance(
-            p,
-            Progress::Opened(
-                place,
-                Word {
-                    group: Some(group),
-                    name: Some(p),
-                },
-            ),
-        )
+        let progress = self.opens_selector(p, 1);
+        self.advance(p, progress)
     }
 }

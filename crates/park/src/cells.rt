@@ -1,41 +1,36 @@
 // The cells of all controllers: one controller's pages are lent as a part of the table.
-ghost use Rattle.std.specs.Prelude.{◌≡◌, ℕ, ◌+◌, ◌*◌, ◌<◌, ◌≤◌, true, ◌++◌, length, drop, replicate, vec_len, slice_index_or, slice_set};
+// kept: a name, a place and a word as three parameters: a struct of them would only be taken apart again, since p says the word in one function and keeps another's in the other.
+ghost use Rattle.std.specs.Prelude.{◌≡◌, ℕ, ◌+◌, ◌*◌, ◌<◌, ◌≤◌, ◌++◌, length, drop, replicate, vec_len, slice_index_or, slice_set};
 ghost use Rattle.terms.specs.declared.word.Cell.TheVariants.{Empty, Holds};
-ghost use Rattle.terms.specs.Places.{within};
 ghost use Rattle.park.specs.Cells.{first_word, kept_word, keeping, saying};
+ghost use Rattle.park.specs.States.{block_of};
 
-use terms::word::{Cell, Place, Word};
+use super::names::Name;
+use super::within::PlaceWithin;
+use terms::word::{Cell, Word};
 
 // Controller p says a word at a place: it comes to its kept cell, and stands in its said cell. Gives the word that is kept.
-pub(crate) fn say(cells: &mut Vec<Cell>, p: u8, place: Place, word: Word) -> Word
-    requires name { (1 ≤ p) × (1024 * p ≤ vec_len cells.old) }
-    requires place { within place ≡ true }
-    ensures items { cells.new.items ≡ saying cells.old.items p place word }
+pub(crate) fn say(cells: &mut Vec<Cell>, p: Name, at: PlaceWithin, word: Word) -> Word
+    requires name { 1024 * p.number ≤ vec_len cells.old }
+    ensures items { cells.new.items ≡ saying cells.old.items p.number at.place word }
     ensures len { vec_len cells.new ≡ vec_len cells.old }
-    ensures kept { result ≡ kept_word cells.old.items p place word }
+    ensures block { block_of cells.new ≡ block_of cells.old }
+    ensures kept { result ≡ kept_word cells.old.items p.number at.place word }
 {
-    let from = (p as usize - 1) * 1024;
-    write_both(&mut cells[from..from + 1024], index_within(place), word)
+    let from = p.index() * 1024;
+    write_both(&mut cells[from..from + 1024], at.index(), word)
 }
 
 // A word comes to the kept cell of controller p at a place. Gives the word that is kept.
-pub(crate) fn keep(cells: &mut Vec<Cell>, p: u8, place: Place, word: Word) -> Word
-    requires name { (1 ≤ p) × (1024 * p ≤ vec_len cells.old) }
-    requires place { within place ≡ true }
-    ensures items { cells.new.items ≡ keeping cells.old.items p place word }
+pub(crate) fn keep(cells: &mut Vec<Cell>, p: Name, at: PlaceWithin, word: Word) -> Word
+    requires name { 1024 * p.number ≤ vec_len cells.old }
+    ensures items { cells.new.items ≡ keeping cells.old.items p.number at.place word }
     ensures len { vec_len cells.new ≡ vec_len cells.old }
-    ensures kept { result ≡ kept_word cells.old.items p place word }
+    ensures block { block_of cells.new ≡ block_of cells.old }
+    ensures kept { result ≡ kept_word cells.old.items p.number at.place word }
 {
-    let from = (p as usize - 1) * 1024;
-    write_kept(&mut cells[from..from + 1024], index_within(place), word)
-}
-
-fn index_within(place: Place) -> usize
-    requires { within place ≡ true }
-    ensures value { result ≡ Rattle.park.specs.Cells.cell_of place }
-    ensures small { result < 512 }
-{
-    place.index()
+    let from = p.index() * 1024;
+    write_kept(&mut cells[from..from + 1024], at.index(), word)
 }
 
 // The two pages of one controller.
@@ -73,7 +68,7 @@ pub(crate) fn empty_first(cells: &mut Vec<Cell>, all: usize)
     requires { all ≤ vec_len cells.old }
     ensures items { cells.new.items ≡ replicate all Empty ++ drop all cells.old.items }
     ensures len { vec_len cells.new ≡ vec_len cells.old }
+    ensures block { block_of cells.new ≡ block_of cells.old }
 {
-    let part = &mut cells[0..all];
-    part.fill(Cell::Empty);
+    cells[0..all].fill(Cell::Empty);
 }

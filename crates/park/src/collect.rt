@@ -2,7 +2,6 @@
 ghost use Rattle.std.specs.Prelude.{◌≡◌};
 ghost use Rattle.permit.specs.Acts.{Loads, Dispatches, HandsBack};
 ghost use Rattle.park.specs.Permits.{Collects, AtDesk};
-ghost use Rattle.park.specs.States.{view};
 
 use super::collected::Collected;
 use super::controller::Stage;
@@ -17,39 +16,33 @@ use terms::refusal::Refusal;
 impl<C: Channel, K: Coins> Park<C, K> {
     // Tells the answer of controller p; the first collecting of a yes gives the permit.
     pub fn collect(&mut self, p: u32) -> Result<Collected, Refusal>
-        ensures { Collects (view self.old) p result (view self.new) }
+        ensures { Collects self.old p result self.new }
     {
-        let p = match self.find_up(p) {
-            Ok(p) => p,
-            Err(refusal) => return Err(refusal),
-        };
+        let p = self.find_up(p)?;
         let Stage::Answered(answer) = self.roster.get(p).stage else {
             return Err(Refusal::NoAnswer);
         };
         match answer {
-            Answer::Yes => match self.desk.give() {
-                Some(permit) => Ok(Collected::Yes(permit)),
-                None => Err(Refusal::Taken),
-            },
+            Answer::Yes => self.desk.give().map(Collected::Yes).ok_or(Refusal::Taken),
             Answer::No => Ok(Collected::No),
             Answer::Undecided => Ok(Collected::Undecided),
         }
     }
 
     pub fn load(&mut self, permit: HeldPermit) -> Result<LoadedPermit, Returned<HeldPermit>>
-        ensures { AtDesk (λ desk. Loads desk permit) (view self.old) result (view self.new) }
+        ensures { AtDesk (λ desk. Loads desk permit) self.old result self.new }
     {
         self.desk.load(permit)
     }
 
     pub fn dispatch(&mut self, permit: LoadedPermit) -> Result<(), Returned<LoadedPermit>>
-        ensures { AtDesk (λ desk. Dispatches desk permit) (view self.old) result (view self.new) }
+        ensures { AtDesk (λ desk. Dispatches desk permit) self.old result self.new }
     {
         self.desk.dispatch(permit)
     }
 
     pub fn hand_back(&mut self, permit: HeldPermit) -> Result<(), Returned<HeldPermit>>
-        ensures { AtDesk (λ desk. HandsBack desk permit) (view self.old) result (view self.new) }
+        ensures { AtDesk (λ desk. HandsBack desk permit) self.old result self.new }
     {
         self.desk.hand_back(permit)
     }

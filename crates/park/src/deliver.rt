@@ -1,23 +1,24 @@
 // A delivery, and a message that is handed to one controller.
-ghost use Rattle.std.specs.Prelude.{◌≡◌, ℕ, ◌<◌, ◌≤◌, true, length, MatchOption};
+ghost use Rattle.std.specs.Prelude.{◌≡◌, ℕ, ◌<◌, true, length};
 ghost use Rattle.terms.specs.Places.{well_formed};
-ghost use Rattle.park.specs.Messages.{Accepts, Delivers, Receives};
-ghost use Rattle.park.specs.States.{view};
+ghost use Rattle.park.specs.Messages.{Accepts, Delivers, Receives, Takes};
 
 use super::cells::keep;
 use super::controller::Stage;
+use super::names::Name;
 use super::park::Park;
+use super::within::PlaceWithin;
 use channel::channel::Channel;
 use coins::Coins;
-use terms::message::{Kind, Mark, Message};
+use terms::message::{Kind, Message};
 use terms::refusal::Refusal;
 
 impl<C: Channel, K: Coins> Park<C, K> {
     // Fetches a message with this pick and hands it to its receiver, whose name is told. A receiver that is down drops it.
     pub fn deliver(&mut self, pick: u32) -> Result<u8, Refusal>
-        ensures { Delivers C.Channel (view self.old) pick result (view self.new) }
+        ensures { Delivers C.Channel self.old pick result self.new }
     {
-        let Some((m, _)) = fetch_one(&mut self.channel, pick) else {
+        let Some((m, _)) = self.channel.fetch(pick) else {
             return Err(Refusal::Nothing);
         };
         if !m.is_well_formed(self.head.n) {
@@ -29,16 +30,13 @@ impl<C: Channel, K: Coins> Park<C, K> {
 
     // For a host that runs a single controller: hands it a message that arrived.
     pub fn receive(&mut self, p: u32, m: Message) -> Result<(), Refusal>
-        ensures { Receives C.Channel (view self.old) p m result (view self.new) }
+        ensures { Receives C.Channel self.old p m result self.new }
     {
-        let p = match self.find_up(p) {
-            Ok(p) => p,
-            Err(refusal) => return Err(refusal),
-        };
+        let p = self.find_up(p)?;
         if m.is_phase() && self.channel.count_free() == 0 {
             return Err(Refusal::NoPlace);
         }
-        if !m.is_well_formed(self.head.n) || m.receiver != p {
+        if !m.is_well_formed(self.head.n) || m.receiver != p.number {
             return Err(Refusal::Message);
         }
         self.accept(m);
@@ -47,11 +45,11 @@ impl<C: Channel, K: Coins> Park<C, K> {
 
     // What a well formed message does to its receiver.
     fn accept(&mut self, m: Message)
-        requires formed { well_formed self.old.head.n m ≡ true }
+        requires formed { well_formed self.old.n m ≡ true }
         requires free { m.kind ≡ Kind.Phase → length (C.Channel.bag self.old.channel) < C.Channel.places self.old.channel }
-        ensures { Accepts C.Channel (view self.old) m (view self.new) }
+        ensures { Accepts C.Channel self.old m self.new }
     {
-        let receiver = self.roster.get(m.receiver);
+        let receiver = self.roster.get(Name { number: m.receiver });
         if !receiver.up {
             return;
         }
@@ -64,12 +62,11 @@ impl<C: Channel, K: Coins> Park<C, K> {
 
     // Keeps the word of a PHASE, if its cell is empty, and sends ECHO with the kept word to its sender.
     fn keep_and_echo(&mut self, m: Message)
-        requires name { (1 ≤ m.receiver) × (m.receiver ≤ self.old.head.n) }
-        requires place { Rattle.terms.specs.Places.within m.place ≡ true }
+        requires formed { well_formed self.old.n m ≡ true }
         requires free { length (C.Channel.bag self.old.channel) < C.Channel.places self.old.channel }
-        ensures { Rattle.park.specs.Messages.Takes C.Channel Kind.Phase (view self.old) m (view self.new) }
+        ensures { Takes C.Channel Kind.Phase self.old m self.new }
     {
-        let kept = keep(&mut self.cells, m.receiver, m.place, m.word);
+        let kept = keep(&mut self.cells, Name { number: m.receiver }, PlaceWithin { place: m.place }, m.word);
         let echo = Message {
             kind: Kind::Echo,
             sender: m.receiver,
@@ -79,12 +76,4 @@ impl<C: Channel, K: Coins> Park<C, K> {
         };
         let _ = self.channel.send(echo);
     }
-}
-
-// One fetch with this pick. Where it gives none the channel is as it was, and where it gives a message a place is free afterwards.
-fn fetch_one<C: Channel>(channel: &mut C, pick: u32) -> Option<(Message, Mark)>
-    ensures fetched { C.Channel.fetches channel.old pick result channel.new }
-    ensures left { MatchOption result (channel.new ≡ channel.old) (λ _. length (C.Channel.bag channel.new) < C.Channel.places channel.new) }
-{
-    channel.fetch(pick)
 }

@@ -1,7 +1,6 @@
 // What a host can ask of a park, and its own hand in the channel.
 ghost use Rattle.std.specs.Prelude.{◌≡◌, ℕ, ◌<◌, ◌≤◌, length};
 ghost use Rattle.park.specs.Host.{answer_of, Posts, Fetches};
-ghost use Rattle.park.specs.States.{view};
 
 use super::controller::Stage;
 use super::park::Park;
@@ -15,12 +14,10 @@ use terms::word::Cell;
 impl<C: Channel, K: Coins> Park<C, K> {
     // The answer that controller p holds, also when it has crashed since; none before, and for a name that is none of the park's.
     pub fn answer(&self, p: u32) -> Option<Answer>
-        ensures { result ≡ answer_of (view self.now) p }
+        ensures { result ≡ answer_of self.now p }
     {
-        if p == 0 || p > self.head.n as u32 {
-            return None;
-        }
-        match self.roster.get(p as u8).stage {
+        let p = self.find(p)?;
+        match self.roster.get(p).stage {
             Stage::Answered(answer) => Some(answer),
             Stage::Uncalled | Stage::Asking(_) => None,
         }
@@ -34,21 +31,21 @@ impl<C: Channel, K: Coins> Park<C, K> {
 
     // All cells, for reading.
     pub fn cells(&self) -> &[Cell]
-        ensures { result.now ≡ self.now.cells.items }
+        ensures { result.now ≡ self.now.cells }
     {
         self.cells.as_slice()
     }
 
     // For a host that carries messages itself: puts one into the channel; refused if all places are taken.
     pub fn post(&mut self, m: Message) -> Result<(), Full>
-        ensures { Posts C.Channel (view self.old) m result (view self.new) }
+        ensures { Posts C.Channel self.old m result self.new }
     {
         self.channel.send(m)
     }
 
     // For a host that carries messages itself: takes one out of the channel, if any waits.
     pub fn fetch(&mut self, pick: u32) -> Option<(Message, Mark)>
-        ensures { Fetches C.Channel (view self.old) pick result (view self.new) }
+        ensures { Fetches C.Channel self.old pick result self.new }
     {
         self.channel.fetch(pick)
     }

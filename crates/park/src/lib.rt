@@ -18,3 +18,4 @@ pub mod park;
 mod phase;
 pub mod roster;
 pub mod step;
+mod within;

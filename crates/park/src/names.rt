@@ -1,25 +1,50 @@
-// Finding a controller by the number that a host gives.
-ghost use Rattle.std.specs.Prelude.{◌≡◌, ℕ, ◌≤◌, Some, None, MatchResult};
-ghost use Rattle.park.specs.Refusals.{name_refusal};
-ghost use Rattle.park.specs.States.{view};
+// Names of controllers, and finding one by the number that a host gives.
+ghost use Rattle.std.specs.Prelude.{◌≡◌, ℕ, ◌-◌, ◌<◌, ◌≤◌, true, false, Some, None, MatchOption, MatchResult};
+ghost use Rattle.park.specs.Refusals.{name_refusal, no_such_name};
 
 use super::park::Park;
 use channel::channel::Channel;
 use coins::Coins;
 use terms::refusal::Refusal;
 
+// The name of a controller, of the largest park at most.
+// kept: that the name is at most n stays a clause where places or cells are counted by it, since n is the park's.
+#[derive(Clone, Copy, Debug, PartialEq, Eq)]
+pub(crate) struct Name {
+    pub(crate) number: u8,
+    ghost named: { (1 ≤ number) × (number ≤ 15) },
+}
+
+impl Name {
+    // Where what belongs to this controller stands among that of all.
+    pub(crate) fn index(self) -> usize
+        ensures value { result ≡ self.number - 1 }
+        ensures small { result < 15 }
+    {
+        self.number as usize - 1
+    }
+}
+
 impl<C: Channel, K: Coins> Park<C, K> {
     // The name of a controller of the park that is up, or why there is none.
-    pub(crate) fn find_up(&self, p: u32) -> Result<u8, Refusal>
-        ensures { MatchResult result (λ q. (q ≡ p) × (1 ≤ q) × (q ≤ self.now.head.n) × (name_refusal (view self.now) p ≡ None)) (λ e. name_refusal (view self.now) p ≡ Some e) }
+    pub(crate) fn find_up(&self, p: u32) -> Result<Name, Refusal>
+        ensures { MatchResult result (λ q. (q.number ≡ p) × (q.number ≤ self.now.n) × (name_refusal self.now p ≡ None)) (λ e. name_refusal self.now p ≡ Some e) }
     {
-        if p == 0 || p > self.head.n as u32 {
-            return Err(Refusal::Name);
-        }
-        let p = p as u8;
+        let p = self.find(p).ok_or(Refusal::Name)?;
         if !self.roster.get(p).up {
             return Err(Refusal::Down);
         }
         Ok(p)
+    }
+
+    // The name of a controller of the park.
+    pub(crate) fn find(&self, p: u32) -> Option<Name>
+        ensures { MatchOption result (no_such_name self.now p ≡ true) (λ q. (q.number ≡ p) × (q.number ≤ self.now.n) × (no_such_name self.now p ≡ false)) }
+    {
+        if p == 0 || p > self.head.n as u32 {
+            None
+        } else {
+            Some(Name { number: p as u8 })
+        }
     }
 }

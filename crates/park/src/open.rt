@@ -1,6 +1,6 @@
 // Opening and closing a park.
-ghost use Rattle.std.specs.Prelude.{◌≡◌, true};
-ghost use Rattle.park.specs.Opening.{Opening, held};
+ghost use Rattle.std.specs.Prelude.{◌≡◌, ℕ, ◌*◌, ◌≤◌, true, Some, None, vec_len, MatchResult};
+ghost use Rattle.park.specs.Opening.{Opening, GivesBack, open_refusal};
 
 use super::cells::empty_first;
 use super::controller::{Controller, Stage};
@@ -23,38 +23,16 @@ impl<C: Channel, K: Coins> Park<C, K> {
     ) -> Result<Park<C, K>, NotOpened<C, K>>
         ensures { Opening C.Channel n vehicle supplies result }
     {
-        if n == 0 || n > 15 {
-            return Err(NotOpened {
-                refusal: Refusal::Count,
-                supplies,
-            });
-        }
-        let n = n as u8;
-        let all = 1024 * n as usize;
-        if supplies.cells.len() < all {
-            return Err(NotOpened {
-                refusal: Refusal::Memory,
-                supplies,
-            });
-        }
-        if supplies.channel.count_places() < n as usize - 1 {
-            return Err(NotOpened {
-                refusal: Refusal::Places,
-                supplies,
-            });
-        }
-        if supplies.channel.count_waiting() > 0 {
-            return Err(NotOpened {
-                refusal: Refusal::Leftover,
-                supplies,
-            });
-        }
+        let n = match supplies.count_for(n) {
+            Ok(n) => n,
+            Err(refusal) => return Err(NotOpened { refusal, supplies }),
+        };
         let Supplies {
             mut cells,
             channel,
             coins,
         } = supplies;
-        empty_first(&mut cells, all);
+        empty_first(&mut cells, 1024 * n as usize);
         let head = Head {
             n,
             majority: majority(n),
@@ -71,7 +49,7 @@ impl<C: Channel, K: Coins> Park<C, K> {
 
     // Gives back what the park holds.
     pub fn close(self) -> Supplies<C, K>
-        ensures { result ≡ held self }
+        ensures { GivesBack self result }
     {
         let Park {
             head: _,
@@ -86,6 +64,28 @@ impl<C: Channel, K: Coins> Park<C, K> {
             channel,
             coins,
         }
+    }
+}
+
+impl<C: Channel, K> Supplies<C, K> {
+    // The count n, if there is enough of everything for a park of n controllers, or why there is not.
+    fn count_for(&self, n: u32) -> Result<u8, Refusal>
+        ensures { MatchResult result (λ m. (m ≡ n) × (1 ≤ m) × (m ≤ 15) × (1024 * m ≤ vec_len self.now.cells) × (open_refusal C.Channel n (vec_len self.now.cells) self.now.channel ≡ None)) (λ e. open_refusal C.Channel n (vec_len self.now.cells) self.now.channel ≡ Some e) }
+    {
+        if n == 0 || n > 15 {
+            return Err(Refusal::Count);
+        }
+        let n = n as u8;
+        if self.cells.len() < 1024 * n as usize {
+            return Err(Refusal::Memory);
+        }
+        if self.channel.count_places() < n as usize - 1 {
+            return Err(Refusal::Places);
+        }
+        if self.channel.count_waiting() > 0 {
+            return Err(Refusal::Leftover);
+        }
+        Ok(n)
     }
 }
 

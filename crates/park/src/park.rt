@@ -1,11 +1,10 @@
 // A park with all that it works on.
-ghost use Rattle.std.specs.Prelude.{ℕ, ◌*◌, ◌≤◌, vec_len};
-
 use super::head::Head;
 use super::roster::Roster;
 use channel::channel::Channel;
 use coins::Coins;
 use permit::desk::Desk;
+use std::marker::Model;
 use terms::refusal::Refusal;
 use terms::word::Cell;
 
@@ -18,7 +17,18 @@ pub struct Park<C, K> {
     pub(crate) cells: Vec<Cell>,
     pub(crate) channel: C,
     pub(crate) coins: K,
-    ghost room: { 1024 * head.n ≤ vec_len cells },
+}
+
+// A clause sees a park as its numbers, its records, its cells and their memory, its channel and its coins. There are enough cells.
+impl<C, K> Model for Park<C, K> {
+    ghost use Rattle.std.specs.Prelude.{◌*◌, ◌≤◌, vec_items, vec_len};
+    ghost use Rattle.park.specs.States.{State, block_of};
+
+    ghost Value = { State C K };
+
+    ghost view = { λ a. record { n = a.head.n; majority = a.head.majority; desk = a.desk; controllers = a.roster.list; cells = vec_items a.cells; block = block_of a.cells; channel = a.channel; coins = a.coins } };
+
+    ghost invariant = { λ a. 1024 * a.head.n ≤ vec_len a.cells };
 }
 
 // What a host hands over for a park, and gets back.

@@ -1,13 +1,14 @@
 // A step.
-ghost use Rattle.std.specs.Prelude.{◌≡◌, ℕ, ◌≤◌, true, IfSome};
-ghost use Rattle.terms.specs.Places.{within};
-ghost use Rattle.park.specs.Asks.{Steps, progress_from, progress_after, goes_to};
+ghost use Rattle.std.specs.Prelude.{◌≡◌, ℕ, ◌≤◌, option_map};
+ghost use Rattle.park.specs.Asks.{Steps, progress_from, progress_after, goes_to, opens_selector};
 ghost use Rattle.park.specs.Controllers.{ready_at};
-ghost use Rattle.park.specs.States.{view, of};
-ghost use Rattle.park.specs.Stays.{opened_within, NextFits};
+ghost use Rattle.park.specs.States.{of};
+ghost use Rattle.park.specs.Stays.{NextFits};
 
 use super::controller::Stage;
+use super::names::Name;
 use super::park::Park;
+use super::within::{PlaceWithin, ProgressWithin};
 use channel::channel::Channel;
 use coins::Coins;
 use terms::answer::Progress;
@@ -19,105 +20,104 @@ use terms::word::{Place, Word};
 impl<C: Channel, K: Coins> Park<C, K> {
     // Controller p goes on from the phase that it has heard a majority in.
     pub fn step(&mut self, p: u32) -> Result<Progress, Refusal>
-        ensures { Steps C.Channel K.Coins (view self.old) p result (view self.new) }
+        ensures { Steps C.Channel K.Coins self.old p result self.new }
     {
-        let p = match self.find_up(p) {
-            Ok(p) => p,
-            Err(refusal) => return Err(refusal),
-        };
-        let Some(place) = self.ready_place(p) else {
+        let p = self.find_up(p)?;
+        let Some(at) = self.ready_place(p) else {
             return Err(Refusal::NotReady);
         };
-        let progress = self.progress(p, place);
+        let progress = self.progress(p, at);
         self.advance(p, progress)
     }
 
     // Where controller p is ready.
-    fn ready_place(&self, p: u8) -> Option<Place>
-        requires name { (1 ≤ p) × (p ≤ self.now.head.n) }
-        ensures value { result ≡ ready_at self.now.head.majority (of (view self.now) p) }
-        ensures within { IfSome result (λ at. within at ≡ true) }
+    fn ready_place(&self, p: Name) -> Option<PlaceWithin>
+        ensures { option_map (λ at. at.place) result ≡ ready_at self.now.majority (of self.now p.number) }
     {
         let c = self.roster.get(p);
         match c.stage {
-            Stage::Asking(place) => if is_majority(c.heard, self.head.majority) {
-                Some(place)
-            } else {
-                None
-            },
-            Stage::Uncalled | Stage::Answered(_) => None,
+            Stage::Asking(place) if is_majority(c.heard, self.head.majority) => {
+                Some(PlaceWithin { place })
+            }
+            Stage::Uncalled | Stage::Asking(_) | Stage::Answered(_) => None,
         }
     }
 
     // What a step of controller p from this place comes to, by what it heard there.
-    fn progress(&self, p: u8, place: Place) -> Progress
-        requires name { (1 ≤ p) × (p ≤ self.now.head.n) }
-        requires place { within place ≡ true }
-        ensures value { result ≡ progress_from C.Channel K.Coins (view self.now) p place }
-        ensures within { opened_within result ≡ true }
+    fn progress(&self, p: Name, at: PlaceWithin) -> ProgressWithin
+        ensures { result.progress ≡ progress_from C.Channel K.Coins self.now p.number at.place }
     {
         let c = self.roster.get(p);
         let heard = collect_heard(self.head.n, c.heard, &c.words);
-        self.progress_by(p, place, heard.as_heard())
+        self.progress_by(p, at, heard.as_heard())
     }
 
-    fn progress_by(&self, p: u8, place: Place, heard: Heard<'_>) -> Progress
-        requires place { within place ≡ true }
-        ensures value { result ≡ progress_after C.Channel K.Coins (view self.now) p heard.entry.groups.now heard.entry.names.now place }
-        ensures within { opened_within result ≡ true }
+    fn progress_by(&self, p: Name, at: PlaceWithin, heard: Heard<'_>) -> ProgressWithin
+        ensures { result.progress ≡ progress_after C.Channel K.Coins self.now p.number heard.entry.groups.now heard.entry.names.now at.place }
     {
-        if place.phase == 1 {
+        let Place {
+            selector,
+            round,
+            phase,
+        } = at.place;
+        if phase == 1 {
             let place = Place {
-                selector: place.selector,
-                round: place.round,
+                selector,
+                round,
                 phase: 2,
             };
-            return Progress::Opened(place, heard.word_of_phase_2());
+            return ProgressWithin {
+                progress: Progress::Opened(place, heard.word_of_phase_2()),
+            };
         }
-        let own = self.coins.draw_group(p, place.selector);
-        let coin = self.coins.draw_coin(place.selector, place.round);
-        let verdict = heard.verdict_of_phase_2(p, own, place.round, coin);
-        self.opening_of(p, place, test_and_set(place.selector, place.round, verdict))
+        let own = self.coins.draw_group(p.number, selector);
+        let coin = self.coins.draw_coin(selector, round);
+        let verdict = heard.verdict_of_phase_2(p.number, own, round, coin);
+        self.opening_of(p, at, test_and_set(selector, round, verdict))
     }
 
     // The answer, or the phase that follows this place.
-    fn opening_of(&self, p: u8, place: Place, next: Next) -> Progress
-        requires place { within place ≡ true }
-        requires next { NextFits place next }
-        ensures value { result ≡ goes_to C.Channel K.Coins (view self.now) p place next }
-        ensures within { opened_within result ≡ true }
+    fn opening_of(&self, p: Name, at: PlaceWithin, next: Next) -> ProgressWithin
+        requires next { NextFits at.place next }
+        ensures { result.progress ≡ goes_to C.Channel K.Coins self.now p.number at.place next }
     {
         match next {
-            Next::Answer(answer) => Progress::Answered(answer),
-            Next::Round(group) => {
-                let place = Place {
-                    selector: place.selector,
-                    round: place.round + 1,
-                    phase: 1,
-                };
-                Progress::Opened(
-                    place,
+            Next::Answer(answer) => ProgressWithin {
+                progress: Progress::Answered(answer),
+            },
+            Next::Round(group) => ProgressWithin {
+                progress: Progress::Opened(
+                    Place {
+                        selector: at.place.selector,
+                        round: at.place.round + 1,
+                        phase: 1,
+                    },
                     Word {
                         group: Some(group),
                         name: None,
                     },
-                )
-            }
-            Next::Selector => {
-                let group = self.coins.draw_group(p, place.selector + 1);
-                let place = Place {
-                    selector: place.selector + 1,
-                    round: 1,
-                    phase: 1,
-                };
-                Progress::Opened(
-                    place,
-                    Word {
-                        group: Some(group),
-                        name: Some(p),
-                    },
-                )
-            }
+                ),
+            },
+            Next::Selector => self.opens_selector(p, at.place.selector + 1),
+        }
+    }
+
+    // The first phase of a selector, which controller p opens with its own draw and its own name.
+    pub(crate) fn opens_selector(&self, p: Name, selector: u8) -> ProgressWithin
+        requires { (1 ≤ selector) × (selector ≤ 16) }
+        ensures { result.progress ≡ opens_selector C.Channel K.Coins self.now p.number selector }
+    {
+        let place = Place {
+            selector,
+            round: 1,
+            phase: 1,
+        };
+        let word = Word {
+            group: Some(self.coins.draw_group(p.number, selector)),
+            name: Some(p.number),
+        };
+        ProgressWithin {
+            progress: Progress::Opened(place, word),
         }
     }
 }

@@ -21,7 +21,7 @@ use Rattle.park.specs.Controllers.{has_called, uncalled}
 use Rattle.park.specs.declared.controller.Stage.{Stage as Real}
 use Rattle.park.specs.declared.controller.Stage.TheVariants as stages
 use Rattle.park.specs.States.{State, of}
-use Rattle.promise.specs.Promise.{Called, Holds, OpenedPhase, OpenedRound, SaidGroup, Promise, EveryRunKeepsThePromise, opposite}
+use Rattle.promise.specs.Promise.{Called, Holds, OpenedPhase, OpenedRound, SaidGroup, Promise, EveryRunKeepsThePromise, KeepsThePromise, opposite}
 use Rattle.promise.specs.Runs.{Event, History, Does, Run, start, then, Fresh}
 use Rattle.promise.proofs.ActsInOutline.{HeardWell, change_act}
 use Rattle.promise.proofs.Alive.{Alive, alive_fresh}
@@ -185,3 +185,7 @@ module _ {C K : Type 0} (ch : channel.Ghosts C) (co : coins.Ghosts K)
 
   pub every_run_keeps_the_promise : EveryRunKeepsThePromise ch co
   every_run_keeps_the_promise s t h F run = kept h t (known F run)
+
+  -- whatever led to the park before, an event keeps the promise
+  pub event_keeps_the_promise : (t u : State C K) (e : Event) → Does ch co t e u → KeepsThePromise ch co t e u
+  event_keeps_the_promise t u e does s h F run = every_run_keeps_the_promise s u (e ∷ h) F (then run e u does)

@@ -10,7 +10,7 @@ use Rattle.terms.specs.declared.word.Cell.{Cell}
 use Rattle.park.specs.declared.collected.Collected.{Collected}
 use Rattle.park.specs.Opening.{open_refusal, fresh}
 use Rattle.park.specs.Permits.{Collects, AtDesk}
-use Rattle.park.specs.States.{State}
+use Rattle.park.specs.States.{Block, State}
 use Rattle.promise.specs.declared.act.Act.{Act}
 use Rattle.promise.specs.declared.act.Outcome.{Outcome}
 use Rattle.promise.specs.Performs.{Performs}
@@ -45,7 +45,8 @@ module _ {C K : Type 0} (ch : channel.Ghosts C) (co : coins.Ghosts K) where
     pub n : ℕ
     pub vehicle : ℕ
     pub cells : List Cell
+    pub block : Block
     pub channel : C
     pub coins : K
     pub accepted : open_refusal ch n (length cells) channel ≡ None
-    pub is : s ≡ fresh n vehicle cells channel coins
+    pub is : s ≡ fresh n vehicle cells block channel coins

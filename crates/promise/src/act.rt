@@ -1,7 +1,7 @@
 // The acts that need no permit, and what they do.
 use terms::answer::Progress;
 
-#[derive(Clone, Copy)]
+#[derive(Clone, Copy, Debug, PartialEq, Eq)]
 pub enum Act {
     Call(u32),
     Step(u32),

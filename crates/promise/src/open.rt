@@ -1,7 +1,6 @@
 // Opening a park: what the runs of the promise begin with.
 ghost use Rattle.std.specs.Prelude.{[], IfOk};
 ghost use Rattle.park.specs.Opening.{Opening};
-ghost use Rattle.park.specs.States.{view};
 ghost use Rattle.promise.specs.Promise.{Promise};
 ghost use Rattle.promise.specs.Runs.{Fresh};
 
@@ -16,8 +15,8 @@ pub fn open<C: Channel, K: Coins>(
     supplies: Supplies<C, K>,
 ) -> Result<Park<C, K>, NotOpened<C, K>>
     ensures opens { Opening C.Channel n vehicle supplies result }
-    ensures fresh { IfOk result (λ park. Fresh C.Channel K.Coins (view park)) }
-    ensures promise { IfOk result (λ park. Promise C.Channel K.Coins [] (view park)) }
+    ensures fresh { IfOk result (λ park. Fresh C.Channel K.Coins park) }
+    ensures promise { IfOk result (λ park. Promise C.Channel K.Coins [] park) }
 {
     Park::open(n, vehicle, supplies)
 }

@@ -1,9 +1,7 @@
 // Performing the acts on a park. Each contract says what the act does, and that the promise is kept in every run that leads to the park it is given.
-ghost use Rattle.std.specs.Prelude.{◌≡◌};
 ghost use Rattle.permit.specs.Acts.{Loads, Dispatches, HandsBack};
 ghost use Rattle.park.specs.Permits.{Collects, AtDesk};
-ghost use Rattle.park.specs.States.{view};
-ghost use Rattle.promise.specs.Performs.{Performs, advanced, crashed, delivered};
+ghost use Rattle.promise.specs.Performs.{Performs};
 ghost use Rattle.promise.specs.Promise.{EveryRunKeepsThePromise, KeepsThePromise};
 ghost use Rattle.promise.specs.Runs.{performed, collected, loaded, dispatched, handed_back};
 
@@ -14,13 +12,12 @@ use park::collected::Collected;
 use park::park::Park;
 use permit::acts::Returned;
 use permit::permit::{HeldPermit, LoadedPermit};
-use terms::answer::Progress;
 use terms::refusal::Refusal;
 
 // Performs a call, a step, a crash or a delivery.
 pub fn perform<C: Channel, K: Coins>(park: &mut Park<C, K>, act: Act) -> Result<Outcome, Refusal>
-    ensures does { Performs C.Channel K.Coins (view park.old) act result (view park.new) }
-    ensures promise { KeepsThePromise C.Channel K.Coins (view park.old) (performed act result) (view park.new) }
+    ensures does { Performs C.Channel K.Coins park.old act result park.new }
+    ensures promise { KeepsThePromise C.Channel K.Coins park.old (performed act result) park.new }
     ensures every_run { EveryRunKeepsThePromise C.Channel K.Coins }
 {
     act_on(park, act)
@@ -28,8 +25,8 @@ pub fn perform<C: Channel, K: Coins>(park: &mut Park<C, K>, act: Act) -> Result<
 
 // Tells the answer of controller p; the first collecting of a yes gives the permit.
 pub fn collect<C: Channel, K: Coins>(park: &mut Park<C, K>, p: u32) -> Result<Collected, Refusal>
-    ensures does { Collects (view park.old) p result (view park.new) }
-    ensures promise { KeepsThePromise C.Channel K.Coins (view park.old) (collected p result) (view park.new) }
+    ensures does { Collects park.old p result park.new }
+    ensures promise { KeepsThePromise C.Channel K.Coins park.old (collected p result) park.new }
 {
     park.collect(p)
 }
@@ -38,8 +35,8 @@ pub fn load<C: Channel, K: Coins>(
     park: &mut Park<C, K>,
     permit: HeldPermit,
 ) -> Result<LoadedPermit, Returned<HeldPermit>>
-    ensures does { AtDesk (λ desk. Loads desk permit) (view park.old) result (view park.new) }
-    ensures promise { KeepsThePromise C.Channel K.Coins (view park.old) (loaded permit result) (view park.new) }
+    ensures does { AtDesk (λ desk. Loads desk permit) park.old result park.new }
+    ensures promise { KeepsThePromise C.Channel K.Coins park.old (loaded permit result) park.new }
 {
     park.load(permit)
 }
@@ -48,8 +45,8 @@ pub fn dispatch<C: Channel, K: Coins>(
     park: &mut Park<C, K>,
     permit: LoadedPermit,
 ) -> Result<(), Returned<LoadedPermit>>
-    ensures does { AtDesk (λ desk. Dispatches desk permit) (view park.old) result (view park.new) }
-    ensures promise { KeepsThePromise C.Channel K.Coins (view park.old) (dispatched permit result) (view park.new) }
+    ensures does { AtDesk (λ desk. Dispatches desk permit) park.old result park.new }
+    ensures promise { KeepsThePromise C.Channel K.Coins park.old (dispatched permit result) park.new }
 {
     park.dispatch(permit)
 }
@@ -58,46 +55,19 @@ pub fn hand_back<C: Channel, K: Coins>(
     park: &mut Park<C, K>,
     permit: HeldPermit,
 ) -> Result<(), Returned<HeldPermit>>
-    ensures does { AtDesk (λ desk. HandsBack desk permit) (view park.old) result (view park.new) }
-    ensures promise { KeepsThePromise C.Channel K.Coins (view park.old) (handed_back permit result) (view park.new) }
+    ensures does { AtDesk (λ desk. HandsBack desk permit) park.old result park.new }
+    ensures promise { KeepsThePromise C.Channel K.Coins park.old (handed_back permit result) park.new }
 {
     park.hand_back(permit)
 }
 
 fn act_on<C: Channel, K: Coins>(park: &mut Park<C, K>, act: Act) -> Result<Outcome, Refusal>
-    ensures { Performs C.Channel K.Coins (view park.old) act result (view park.new) }
+    ensures { Performs C.Channel K.Coins park.old act result park.new }
 {
     match act {
-        Act::Call(p) => as_advanced(park.call(p)),
-        Act::Step(p) => as_advanced(park.step(p)),
-        Act::Crash(p) => as_crashed(park.crash(p)),
-        Act::Deliver(pick) => as_delivered(park.deliver(pick)),
-    }
-}
-
-fn as_advanced(r: Result<Progress, Refusal>) -> Result<Outcome, Refusal>
-    ensures { result ≡ advanced r }
-{
-    match r {
-        Ok(progress) => Ok(Outcome::Advanced(progress)),
-        Err(refusal) => Err(refusal),
-    }
-}
-
-fn as_crashed(r: Result<(), Refusal>) -> Result<Outcome, Refusal>
-    ensures { result ≡ crashed r }
-{
-    match r {
-        Ok(()) => Ok(Outcome::Crashed),
-        Err(refusal) => Err(refusal),
-    }
-}
-
-fn as_delivered(r: Result<u8, Refusal>) -> Result<Outcome, Refusal>
-    ensures { result ≡ delivered r }
-{
-    match r {
-        Ok(receiver) => Ok(Outcome::Delivered(receiver)),
-        Err(refusal) => Err(refusal),
+        Act::Call(p) => park.call(p).map(Outcome::Advanced),
+        Act::Step(p) => park.step(p).map(Outcome::Advanced),
+        Act::Crash(p) => park.crash(p).map(|()| Outcome::Crashed),
+        Act::Deliver(pick) => park.deliver(pick).map(Outcome::Delivered),
     }
 }

@@ -7,7 +7,6 @@ use Rattle.channel.specs.declared.line.Line.{Line}
 use Rattle.coins.specs.contracts.seeded.SeededCoins.TheImpl as seeded-coins
 use Rattle.coins.specs.declared.seeded.Seeded.{Seeded}
 use Rattle.park.specs.Opening.{Opening}
-use Rattle.park.specs.States.{view}
 use Rattle.park.specs.declared.park.NotOpened.{NotOpened}
 use Rattle.park.specs.declared.park.Park.{Park}
 use Rattle.promise.specs.declared.act.Act.{Act}
@@ -72,7 +71,7 @@ OpensOnce (Some park) cells before n places seed report after = Unread before re
 abbrev pub Acts : Option (Park Line Seeded) → Session → Act → Report → Session → Type 0
 Acts None before act report after = Unread before report after
 Acts (Some park) before act report after =
-    (later : Park Line Seeded) × (after ≡ record { cells = before.cells; park = Some later }) × Reports line-channel.ghosts seeded-coins.ghosts (view park) act report (view later)
+    (later : Park Line Seeded) × (after ≡ record { cells = before.cells; park = Some later }) × Reports line-channel.ghosts seeded-coins.ghosts park act report later
 
 abbrev pub Answers : Session → Option Record → Report → Session → Type 0
 Answers before None report after = Unread before report after

@@ -1,6 +1,5 @@
 // What a record asks of an open park, and the report of it.
 ghost use Rattle.std.specs.Prelude.{◌≡◌};
-ghost use Rattle.park.specs.States.{view};
 ghost use Rattle.session.specs.Reports.{Reports, acted_on, kind_of_act};
 
 use channel::channel::Channel;
@@ -12,7 +11,7 @@ use script::report::{Act as Kind, Report};
 
 // Performs one act and reports it: the controller acted on with its answer after the act, or the refusal.
 pub fn act_on<C: Channel, K: Coins>(park: &mut Park<C, K>, act: Act) -> Report
-    ensures { Reports C.Channel K.Coins (view park.old) act result (view park.new) }
+    ensures { Reports C.Channel K.Coins park.old act result park.new }
 {
     match perform(park, act) {
         Err(refusal) => Report::Refused(kind_of(act), refusal),

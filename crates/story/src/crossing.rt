@@ -1,6 +1,5 @@
 // A station collects its answer and, given the permit, loads and dispatches the vehicle.
 ghost use Rattle.std.specs.Prelude.{◌≡◌};
-ghost use Rattle.park.specs.States.{view};
 ghost use Rattle.permit.specs.Acts.{HeldAt};
 ghost use Rattle.story.specs.Crossings.{Crosses, sent_off};
 
@@ -22,7 +21,7 @@ pub enum Crossing {
 
 // Controller p collects; a permit that it is given is spent at once.
 pub fn cross<C: Channel, K: Coins>(park: &mut Park<C, K>, p: u32) -> Result<Crossing, Refusal>
-    ensures { Crosses (view park.old) p result (view park.new) }
+    ensures { Crosses park.old p result park.new }
 {
     match collect(park, p)? {
         Collected::Yes(permit) => {
@@ -36,8 +35,8 @@ pub fn cross<C: Channel, K: Coins>(park: &mut Park<C, K>, p: u32) -> Result<Cros
 
 // Loads and dispatches with a permit that was just given: neither is refused.
 fn send_off<C: Channel, K: Coins>(park: &mut Park<C, K>, permit: HeldPermit)
-    requires { HeldAt (view park.old).desk permit }
-    ensures { view park.new ≡ sent_off (view park.old) }
+    requires { HeldAt park.old.desk permit }
+    ensures { park.new ≡ sent_off park.old }
 {
     let loaded = load(park, permit).unwrap();
     dispatch(park, loaded).unwrap();

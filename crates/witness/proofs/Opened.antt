@@ -2,6 +2,7 @@
 use Rattle.std.proofs.Common.{◌≡◌, ℕ, ◌-◌, ◌*◌, ◌≤◌, Bool, false, List, [], length, replicate, None, Option, refl, ap, ◌∙◌, arith}
 use lib.ListN.{length-replicate}
 use Rattle.std.proofs.lemmas.Bool.{and_from, le-leb, le-ltb, not_from_true}
+use Rattle.std.specs.Ptr.{block_ptr}
 use Rattle.channel.specs.declared.channel.Channel as channel
 use Rattle.coins.specs.declared.Coins as coins
 use Rattle.terms.specs.declared.refusal.Refusal.{Refusal}
@@ -10,7 +11,7 @@ use Rattle.terms.specs.declared.word.Cell.{Cell}
 use Rattle.terms.specs.declared.word.Cell.TheVariants.{Empty}
 use Rattle.park.specs.Opening.{fresh, open_refusal}
 use Rattle.park.specs.Refusals.{first, when}
-use Rattle.park.specs.States.{State}
+use Rattle.park.specs.States.{Block, State}
 use Rattle.witness.specs.Witnesses.{OpenedOver, AFreshParkExists}
 
 -- neither refusal applies
@@ -23,8 +24,12 @@ not_when b e f = ap (λ x. when x e) f
 abbrev empty_cells : ℕ → List Cell
 empty_cells n = replicate (1024 * n) Empty
 
+-- some memory with room for the cells of n controllers
+abbrev pub a_block : ℕ → Block
+a_block n = record { at = block_ptr 0 0; capacity = 1024 * n }
+
 abbrev pub park_of : {C K : Type 0} → C → K → ℕ → ℕ → State C K
-park_of c k n vehicle = fresh n vehicle (empty_cells n) c k
+park_of c k n vehicle = fresh n vehicle (empty_cells n) (a_block n) c k
 
 module _ {C K : Type 0} (ch : channel.Ghosts C) (co : coins.Ghosts K) where
   accepts : (n cells : ℕ) (c : C) → ch.bag c ≡ [] → 1 ≤ n → n ≤ 15 → n - 1 ≤ ch.places c → cells ≡ 1024 * n → open_refusal ch n cells c ≡ None
@@ -40,6 +45,7 @@ module _ {C K : Type 0} (ch : channel.Ghosts C) (co : coins.Ghosts K) where
       n = n;
       vehicle = vehicle;
       cells = empty_cells n;
+      block = a_block n;
       channel = c;
       coins = k;
       accepted = accepts n _ c e low high room (length-replicate (1024 * n) Empty);

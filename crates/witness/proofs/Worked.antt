@@ -36,7 +36,7 @@ use Rattle.promise.specs.declared.act.Outcome.TheVariants.{Advanced}
 use Rattle.promise.specs.Promise as promise
 use Rattle.promise.specs.Runs.{performed, collected, loaded, dispatched, History, Does, Run, start, then}
 use Rattle.witness.specs.Witnesses.{AllAnswered, AnswerIsDue, SomeRun, ARunWithAYesAndAPermitExists, AllAnsweredCanBeMet, NeverStuckCanBeMet}
-use Rattle.witness.proofs.Opened.{none_first, not_when, opened_over, park_of}
+use Rattle.witness.proofs.Opened.{a_block, none_first, not_when, opened_over, park_of}
 
 -- ---- the record of controller 1
 
@@ -110,7 +110,7 @@ module _ (list : List Controller) (at : Place) (v : Word) (a : Asks list at v) w
 
 module _ {C K : Type 0} (ch : channel.Ghosts C) (co : coins.Ghosts K) (c : C) (k : K) where
   abbrev park : Desk → List Controller → List Cell → State C K
-  park desk list cells = record { n = 1; majority = 1; desk = desk; controllers = list; cells = cells; channel = c; coins = k }
+  park desk list cells = record { n = 1; majority = 1; desk = desk; controllers = list; cells = cells; block = a_block 1; channel = c; coins = k }
 
   abbrev w : Word
   w = own_word (co.group k 1 1) 1

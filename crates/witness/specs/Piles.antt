@@ -1,5 +1,6 @@
 -- A small channel and coins for worked runs: a pile of messages, of which a fetch takes the one at its pick, and tables by hand.
 use Rattle.std.specs.Prelude.{◌≡◌, ℕ, zero, suc, ◌+◌, ◌*◌, ◌≤◌, cond, List, [], ◌∷◌, length, replicate, Some, None, Option, ◌==◌}
+use Rattle.std.specs.Ptr.{block_ptr}
 use Rattle.channel.specs.declared.channel.Channel as channel
 use Rattle.channel.specs.Meaning.{SameBag, Gives}
 use Rattle.coins.specs.declared.Coins as coins
@@ -42,7 +43,7 @@ table = record { group = λ k p selector. cond (p == 1) Zero One; common = λ k 
 
 -- three controllers, just opened, with a hundred places free
 abbrev pub three : State Pile (Unit {0})
-three = fresh 3 0 (replicate (1024 * 3) Empty) (record { waiting = []; free = 100 }) tt
+three = fresh 3 0 (replicate (1024 * 3) Empty) (record { at = block_ptr 0 0; capacity = 1024 * 3 }) (record { waiting = []; free = 100 }) tt
 
 -- what is asked of every channel
 pub record IsAChannel {C : Type 0} (ch : channel.Ghosts C) : Type 0 where

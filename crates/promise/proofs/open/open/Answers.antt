@@ -1,5 +1,4 @@
 use Rattle.std.proofs.Common.{[], IfOk, Ok, Err, Result}
-use Rattle.park.specs.States.{view}
 use Rattle.promise.specs.Runs.{start}
 use Rattle.promise.proofs.Kept.{every_run_keeps_the_promise}
 use Rattle.promise.proofs.Opened.{opened_fresh}
@@ -16,5 +15,5 @@ returns g c =
     record {
       opens = c.open.ensures;
       fresh = fresh;
-      promise = also _ _ (λ park F. every_run_keeps_the_promise g.C.Channel g.K.Coins ch.gains ch.gives (view park) (view park) [] F start) c.open.result fresh;
+      promise = also _ _ (λ park F. every_run_keeps_the_promise g.C.Channel g.K.Coins ch.gains ch.gives park park [] F start) c.open.result fresh;
     }

@@ -1,11 +1,8 @@
-use Rattle.promise.specs.Runs.{collected, then}
-use Rattle.promise.proofs.Kept.{every_run_keeps_the_promise}
+use Rattle.promise.specs.Runs.{collected}
+use Rattle.promise.proofs.Kept.{event_keeps_the_promise}
 use Rattle.promise.proofs.perform.collect.Goals as goal
 
 pub returns : goal.returns
 returns g c =
     let ch = g.met.C.Channel in
-    record {
-      does = c.collect.ensures;
-      promise = λ s h F run. every_run_keeps_the_promise g.C.Channel g.K.Coins ch.gains ch.gives s _ _ F (then run (collected c.args.p c.collect.result) _ c.collect.ensures);
-    }
+    record { does = c.collect.ensures; promise = event_keeps_the_promise g.C.Channel g.K.Coins ch.gains ch.gives _ _ (collected c.args.p c.collect.result) c.collect.ensures }

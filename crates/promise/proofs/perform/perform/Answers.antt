@@ -1,5 +1,5 @@
-use Rattle.promise.specs.Runs.{performed, then}
-use Rattle.promise.proofs.Kept.{every_run_keeps_the_promise}
+use Rattle.promise.specs.Runs.{performed}
+use Rattle.promise.proofs.Kept.{event_keeps_the_promise, every_run_keeps_the_promise}
 use Rattle.promise.proofs.perform.perform.Goals as goal
 
 pub returns : goal.returns
@@ -7,6 +7,6 @@ returns g c =
     let ch = g.met.C.Channel in
     record {
       does = c.act_on.ensures;
-      promise = λ s h F run. every_run_keeps_the_promise g.C.Channel g.K.Coins ch.gains ch.gives s _ _ F (then run (performed c.args.act c.act_on.result) _ c.act_on.ensures);
+      promise = event_keeps_the_promise g.C.Channel g.K.Coins ch.gains ch.gives _ _ (performed c.args.act c.act_on.result) c.act_on.ensures;
       every_run = every_run_keeps_the_promise g.C.Channel g.K.Coins ch.gains ch.gives;
     }

@@ -1,0 +1,38 @@
+use Rattle.std.proofs.Common.{◌≡◌, ℕ, ◌-◌, ◌+◌, rules, sym, subst, arith}
+use Rattle.channel.specs.Sends.{SentAll}
+use Rattle.park.specs.Asks.{phases}
+use Rattle.park.proofs.Phases.{sent_self, sent_other}
+use Rattle.park.proofs.broadcast.send_to_others.Goals as goal
+use Rattle.park.proofs.broadcast.send_to_others.Goals.{then-q-p, else-q-p}
+
+pub loop-q-preserved : goal.loop-q-preserved
+loop-q-preserved g c =
+    let q = c.loop-q.q in
+    let p = c.args.p.number in
+    let at = c.args.place in
+    let w = c.args.word in
+    let ch = g.C.Channel in
+    let first = c.args.channel.now in
+    let next : q ≡ q + 1 - 1 = omega arith in
+    subst (λ (i : ℕ). SentAll ch.sends first (phases i p at w) c.if-q-p.channel) next
+    (elim c.if-q-p.branch [
+    then-q-p b ↦ subst (λ (d : g.row.C.Denot). SentAll ch.sends first (phases q p at w) d) (sym b.channel-is)
+      (sent_other p at w ch.sends ch.bag ch.places g.met.C.Channel.gains c.args.n q first c.loop-q.channel b.send.new.self c.args.p.named.0 c.requires.name c.loop-q.auto.q c.loop-q-test.true b.if-q-p.true c.requires.free c.loop-q.invariant (λ free. (b.send.ensures.accepted free).1))
+  | else-q-p b ↦ subst (λ (d : g.row.C.Denot). SentAll ch.sends first (phases q p at w) d) (sym b.channel-is)
+      (sent_self p at w ch.sends ch.bag ch.places g.met.C.Channel.gains q first c.loop-q.channel c.loop-q.auto.q b.if-q-p.false c.loop-q.invariant) ])
+
+pub returns-after-q-p : goal.returns-after-q-p
+returns-after-q-p g c =
+    let q = c.loop-q.q in
+    let p = c.args.p.number in
+    let at = c.args.place in
+    let w = c.args.word in
+    let ch = g.C.Channel in
+    let first = c.args.channel.now in
+    let last : q ≡ c.args.n = search rules in
+    subst (λ (i : ℕ). SentAll ch.sends first (phases i p at w) c.if-q-p.channel) last
+    (elim c.if-q-p.branch [
+    then-q-p b ↦ subst (λ (d : g.row.C.Denot). SentAll ch.sends first (phases q p at w) d) (sym b.channel-is)
+      (sent_other p at w ch.sends ch.bag ch.places g.met.C.Channel.gains c.args.n q first c.loop-q.channel b.send.new.self c.args.p.named.0 c.requires.name c.loop-q.auto.q c.loop-q-test.true b.if-q-p.true c.requires.free c.loop-q.invariant (λ free. (b.send.ensures.accepted free).1))
+  | else-q-p b ↦ subst (λ (d : g.row.C.Denot). SentAll ch.sends first (phases q p at w) d) (sym b.channel-is)
+      (sent_self p at w ch.sends ch.bag ch.places g.met.C.Channel.gains q first c.loop-q.channel c.loop-q.auto.q b.if-q-p.false c.loop-q.invariant) ])
