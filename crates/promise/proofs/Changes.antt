@@ -32,7 +32,7 @@ use Rattle.park.specs.Messages.{kept, echo_of, Takes, Accepts, Delivers, Deliver
 use Rattle.park.specs.Permits.{Tells, Collects}
 use Rattle.park.specs.Refusals.{first, when, name_refusal, too_few_places}
 use Rattle.park.specs.States.{State, of, with_channel, with_controller, with_controllers, with_desk}
-use Rattle.promise.specs.declared.act.Act.TheVariants.{Call, Step, Crash, Deliver}
+use Rattle.terms.specs.declared.act.Act.TheVariants.{Call, Step, Crash, Deliver}
 use Rattle.promise.specs.declared.act.Outcome.{Outcome}
 use Rattle.promise.specs.declared.act.Outcome.TheVariants.{Advanced, Crashed}
 use Rattle.promise.specs.Performs.{advanced, crashed}

@@ -9,7 +9,7 @@ use Rattle.park.specs.declared.controller.Controller.{Controller}
 use Rattle.park.specs.declared.controller.Stage.TheVariants.{Uncalled, Answered}
 use Rattle.park.specs.Controllers.{has_called, record_of, with_record}
 use Rattle.park.specs.States.{State, of}
-use Rattle.promise.specs.declared.act.Act.TheVariants.{Call, Step, Crash, Deliver}
+use Rattle.terms.specs.declared.act.Act.TheVariants.{Call, Step, Crash, Deliver}
 use Rattle.promise.specs.declared.act.Outcome.{Outcome}
 use Rattle.promise.specs.declared.act.Outcome.TheVariants.{Advanced}
 use Rattle.promise.specs.Promise.{Called, Crashed, Holds}

@@ -11,7 +11,7 @@ use Rattle.terms.specs.declared.word.Word.{Word}
 use Rattle.park.specs.States.{State}
 use Rattle.laws.proofs.Cells.{wrote_new}
 use Rattle.laws.specs.Outlines.{Wrote}
-use Rattle.promise.specs.declared.act.Act.TheVariants.{Call, Step}
+use Rattle.terms.specs.declared.act.Act.TheVariants.{Call, Step}
 use Rattle.promise.specs.declared.act.Outcome.TheVariants.{Advanced}
 use Rattle.promise.specs.Runs.{Event, performed}
 use Rattle.promise.proofs.CellWrites.{inside_from, keep_said, say_says}

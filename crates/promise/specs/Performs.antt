@@ -7,8 +7,8 @@ use Rattle.terms.specs.declared.refusal.Refusal.{Refusal}
 use Rattle.park.specs.Asks.{Calls, Steps}
 use Rattle.park.specs.Messages.{Crashes, Delivers}
 use Rattle.park.specs.States.{State}
-use Rattle.promise.specs.declared.act.Act.{Act}
-use Rattle.promise.specs.declared.act.Act.TheVariants.{Call, Step, Crash, Deliver}
+use Rattle.terms.specs.declared.act.Act.{Act}
+use Rattle.terms.specs.declared.act.Act.TheVariants.{Call, Step, Crash, Deliver}
 use Rattle.promise.specs.declared.act.Outcome.{Outcome}
 use Rattle.promise.specs.declared.act.Outcome.TheVariants.{Advanced, Crashed, Delivered}
 

@@ -15,7 +15,7 @@ use Rattle.park.specs.Asks.{Steps}
 use Rattle.park.specs.Messages.{Delivers}
 use Rattle.park.specs.States.{State}
 use Rattle.park.specs.declared.collected.Collected.TheVariants as collects
-use Rattle.promise.specs.declared.act.Act.TheVariants.{Call, Step, Crash}
+use Rattle.terms.specs.declared.act.Act.TheVariants.{Call, Step, Crash}
 use Rattle.promise.specs.declared.act.Outcome.{Outcome}
 use Rattle.promise.specs.declared.act.Outcome.TheVariants.{Advanced}
 use Rattle.promise.specs.Runs.{Event, performed, collected, loaded, dispatched, handed_back, History, Run, Fresh}

@@ -11,7 +11,7 @@ use Rattle.park.specs.declared.collected.Collected.{Collected}
 use Rattle.park.specs.Opening.{open_refusal, fresh}
 use Rattle.park.specs.Permits.{Collects, AtDesk}
 use Rattle.park.specs.States.{Block, State}
-use Rattle.promise.specs.declared.act.Act.{Act}
+use Rattle.terms.specs.declared.act.Act.{Act}
 use Rattle.promise.specs.declared.act.Outcome.{Outcome}
 use Rattle.promise.specs.Performs.{Performs}
 

@@ -1,13 +1,7 @@
 // The acts that need no permit, and what they do.
-use terms::answer::Progress;
+pub use terms::act::Act;
 
-#[derive(Clone, Copy, Debug, PartialEq, Eq)]
-pub enum Act {
-    Call(u32),
-    Step(u32),
-    Crash(u32),
-    Deliver(u32),
-}
+use terms::answer::Progress;
 
 // What an accepted act did: a call or a step opened a phase or gave the answer, a delivery reached this receiver.
 #[derive(Clone, Copy)]

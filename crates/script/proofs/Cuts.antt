@@ -74,3 +74,7 @@ ends_more (a ∷ c ∷ t) b = ends_more (c ∷ t) b
 pub some_more : (t : List ℕ) (b : ℕ) → some (t ++ b ∷ []) ≡ true
 some_more [] b = refl
 some_more (a ∷ t) b = refl
+
+pub ends_some : (t : List ℕ) → ends_in_cr t ≡ true → some t ≡ true
+ends_some [] e = e
+ends_some (a ∷ t) e = refl

@@ -1,10 +1,13 @@
 -- What a splitter holds after one more byte.
-use Rattle.std.proofs.Common.{◌≡◌, ℕ, ◌+◌, ◌-◌, ◌<◌, ◌≤◌, min, true, false, ◌&&◌, eqb, List, [], ◌∷◌, ◌++◌, length, take, set, sym, ap, ◌∙◌, subst, inl, inr, arith}
+use Rattle.std.proofs.Common.{Bor, Option, Some, None, MatchOption, nat_le, ◌≡◌, ℕ, ◌+◌, ◌-◌, ◌<◌, ◌≤◌, min, true, false, ◌&&◌, eqb, List, [], ◌∷◌, ◌++◌, length, take, set, refl, sym, ap, ◌∙◌, subst, inl, inr, arith}
 use Rattle.std.proofs.lemmas.List.{length_push, take_all, take-take, take-append-le, take_more_set, set_past}
-use Rattle.std.proofs.lemmas.Bool.{false≢true, cases_lt, and_parts}
-use Rattle.script.proofs.Cuts.{init, init_is, cut_end, cut_on, ends_more, some_more}
+use Rattle.std.proofs.lemmas.Bool.{false≢true, lt-leb, cases_Bool, cases_lt, and_parts}
+use Rattle.std.specs.Slice.{IsGetRangeResult}
+use Rattle.script.proofs.Cuts.{init, init_is, cut_end, cut_on, ends_more, ends_some, some_more}
 use Rattle.script.specs.Splits.{unended, some}
-use Rattle.script.specs.Splitters.{Keeps, Fed}
+use Rattle.script.specs.Splitters.{Shows, Holds, Keeps, Fed, ends_in_cr, last_byte, last_of, is_cr}
+use Rattle.script.specs.declared.split.Last.{Last}
+use Rattle.script.specs.declared.split.Last.TheVariants.{RecordEnd}
 use Rattle.script.specs.declared.split.Splitter.{Splitter}
 
 take_min : (k : ℕ) (l : List ℕ) → take (min k (length l)) l ≡ take k l
@@ -29,15 +32,31 @@ back bytes u len b n size len_is same n-is = elim (cases_lt (length u) 80) [ inl
     long : 80 ≤ length u → take n (set bytes len b) ≡ take 80 (u ++ b ∷ [])
     long h = ap (take n) (set_past bytes len b (omega arith)) ∙ ap (λ m. take m bytes) (omega arith) ∙ same ∙ sym (take-append-le 80 u (b ∷ []) h)
 
-module _ (s : Splitter) (past : List ℕ) (byte : ℕ) (keeps : Keeps s (unended past)) where
-  pub end_feeds : (n : ℕ) → n ≡ s.len - 1 → (s.cr && eqb byte 10) ≡ true → Fed past byte true (record { bytes = s.bytes; len = n; cr = s.cr; begun = false })
-  end_feeds n n-is h =
+is_cr_last : (t : List ℕ) → is_cr (last_of t) ≡ ends_in_cr t
+is_cr_last [] = refl
+is_cr_last (b ∷ t) = elim (cases_Bool (ends_in_cr (b ∷ t))) [ inl e ↦ rw e refl | inr e ↦ rw e refl ]
+
+last_more : (t : List ℕ) (b : ℕ) → last_of (t ++ b ∷ []) ≡ last_byte b
+last_more t b = rw (some_more t b, ends_more t b) refl
+
+-- the bytes up to the length are the text, where it is short enough
+pub shown : (s : Splitter) (text : List ℕ) (r : Option (Bor (List ℕ))) → length s.bytes ≡ 80 → IsGetRangeResult s.bytes 0 s.len r → Shows s text → MatchOption r (nat_le (length text) 80 ≡ false) (λ x. x.now ≡ text)
+shown s text None size got shows = lt-leb (length text) 80 (omega (arith, shows.count))
+shown s text (Some x) size got shows =
+    let few : s.len ≤ 80 = omega (arith, got.0.1) in
+    got.0.2 ∙ ap (λ n. take n s.bytes) (omega arith) ∙ shows.bytes ∙ take_all 80 text (omega (arith, shows.count))
+
+module _ (s : Splitter) (past : List ℕ) (byte : ℕ) where
+  pub end_feeds : Holds s past → (n : ℕ) → n ≡ s.len - 1 → (is_cr s.last && eqb byte 10) ≡ true → Fed past byte true (record { bytes = s.bytes; len = n; last = RecordEnd })
+  end_feeds holds n n-is h =
       let u = unended past in
-      let e = cut_end past byte (ap (λ x. x && eqb byte 10) (sym keeps.cr) ∙ h) in
-      let last = init_is u (sym keeps.cr ∙ (and_parts _ _ h).0) in
+      let cr : (ends_in_cr u && eqb byte 10) ≡ true = ap (λ x. x && eqb byte 10) (sym (ap is_cr holds.last ∙ is_cr_last u)) ∙ h in
+      let e = cut_end past byte cr in
+      let last = init_is u (and_parts _ _ cr).0 in
+      let keeps = holds.text (ends_some u (and_parts _ _ cr).0) in
       let long : length u ≡ length (init u) + 1 = ap length last.1 ∙ length_push (init u) last.0 in
       record {
-        holds = record { begun = sym (ap (λ x. some x.1) e); text = λ z. absurd (false≢true z) };
+        holds = record { last = sym (ap (λ x. last_of x.1) e); text = λ z. absurd (false≢true (sym (ap (λ x. some x.1) e) ∙ z)) };
         given = (
           init u,
           ap (λ x. x.0) e,
@@ -48,18 +67,17 @@ module _ (s : Splitter) (past : List ℕ) (byte : ℕ) (keeps : Keeps s (unended
         );
       }
 
-  pub put_feeds : (bytes : List ℕ) (n : ℕ) → length s.bytes ≡ 80 → bytes ≡ set s.bytes s.len byte → n ≡ min 82 (s.len + 1) → (s.cr && eqb byte 10) ≡ false
-      → Fed past byte false (record { bytes = bytes; len = n; cr = eqb byte 13; begun = true })
-  put_feeds bytes n size bytes_are n-is h =
+  pub put_feeds : Keeps s (unended past) → s.last ≡ last_of (unended past) → (bytes : List ℕ) (n : ℕ) (last : Last) → length s.bytes ≡ 80 → bytes ≡ set s.bytes s.len byte → n ≡ min 82 (s.len + 1) → last ≡ last_byte byte
+      → (is_cr s.last && eqb byte 10) ≡ false → Fed past byte false (record { bytes = bytes; len = n; last = last })
+  put_feeds keeps last-is bytes n last size bytes_are n-is last-new h =
       let u = unended past in
-      let e = cut_on past byte (ap (λ x. x && eqb byte 10) (sym keeps.cr) ∙ h) in
-      let after : Splitter = record { bytes = bytes; len = n; cr = eqb byte 13; begun = true } in
+      let e = cut_on past byte (ap (λ x. x && eqb byte 10) (sym (ap is_cr last-is ∙ is_cr_last u)) ∙ h) in
+      let after : Splitter = record { bytes = bytes; len = n; last = last } in
       let more : Keeps after (u ++ byte ∷ []) = record {
         count = omega (arith, keeps.count, length_push u byte);
         bytes = ap (take (min 80 n)) bytes_are ∙ back s.bytes u s.len byte (min 80 n) size keeps.count keeps.bytes (omega arith);
-        cr = sym (ends_more u byte);
       } in
       record {
-        holds = record { begun = sym (ap (λ x. some x.1) e ∙ some_more u byte); text = λ _. subst (Keeps after) (sym (ap (λ x. x.1) e)) more };
+        holds = record { last = last-new ∙ sym (ap (λ x. last_of x.1) e ∙ last_more u byte); text = λ _. subst (Keeps after) (sym (ap (λ x. x.1) e)) more };
         given = ap (λ x. x.0) e;
       }

@@ -3,18 +3,19 @@ use Rattle.std.specs.Prelude.{◌≡◌, ℕ, Bool, true, false, List, [], ◌�
 use Rattle.script.specs.Records.{record_of}
 use Rattle.script.specs.Splits.{records}
 use Rattle.script.specs.declared.record.Record.{Record}
-use Rattle.script.specs.declared.record.Record.TheVariants.{Open, Call, Step, Crash, Deliver}
+use Rattle.script.specs.declared.record.Record.TheVariants.{Open, Act}
+use Rattle.terms.specs.declared.act.Act.TheVariants.{Call, Step, Crash, Deliver}
 
 -- whether an opening was accepted before, some bytes, and which record they are
 abbrev pub rows : List (Bool × List ℕ × Option Record)
 rows =
     (false, codes "O,1,0,0", Some (Open 1 0 0))
-    ∷ (true, codes "C,1", Some (Call 1))
-    ∷ (true, codes "S,15", Some (Step 15))
-    ∷ (true, codes "X,0", Some (Crash 0))
-    ∷ (true, codes "D,4294967295", Some (Deliver 4294967295))
+    ∷ (true, codes "C,1", Some (Act (Call 1)))
+    ∷ (true, codes "S,15", Some (Act (Step 15)))
+    ∷ (true, codes "X,0", Some (Act (Crash 0)))
+    ∷ (true, codes "D,4294967295", Some (Act (Deliver 4294967295)))
     ∷ (true, codes "D,4294967296", None)
-    ∷ (true, codes "C,00000000000000000007", Some (Call 7))
+    ∷ (true, codes "C,00000000000000000007", Some (Act (Call 7)))
     ∷ (true, codes "C,000000000000000000007", None)
     ∷ (false, codes "O,15,1024,18446744073709551615", Some (Open 15 1024 18446744073709551615))
     ∷ (false, codes "O,15,1024,18446744073709551616", None)

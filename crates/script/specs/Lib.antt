@@ -1,6 +1,6 @@
 pub mod Examples
+pub mod Fronts
 pub mod Lines
-pub mod Reading
 pub mod Records
 pub mod Splits
 pub mod Splitters

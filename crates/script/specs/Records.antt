@@ -3,7 +3,8 @@ use Rattle.std.specs.Prelude.{ℕ, ◌-◌, ◌^◌, Bool, false, cond, ◌&&◌
 use Rattle.std.specs.Str.Parse.{digits_value}
 use Rattle.std.specs.Str.{all_ascii_digits}
 use Rattle.script.specs.declared.record.Record.{Record}
-use Rattle.script.specs.declared.record.Record.TheVariants.{Open, Call, Step, Crash, Deliver}
+use Rattle.script.specs.declared.record.Record.TheVariants.{Open, Act}
+use Rattle.terms.specs.declared.act.Act.TheVariants.{Call, Step, Crash, Deliver}
 
 -- one byte more in front: a comma (44) ends an empty field there, and any other byte begins the first field
 abbrev pub in_front : ℕ → List (List ℕ) → List (List ℕ)
@@ -36,8 +37,8 @@ opening letter (Some n) (Some places) (Some seed) = cond (is_letter 79 letter) (
 abbrev pub acting : List ℕ → Option ℕ → Option Record
 acting letter None = None
 acting letter (Some k) =
-    cond (is_letter 67 letter) (Some (Call k))
-    (cond (is_letter 83 letter) (Some (Step k)) (cond (is_letter 88 letter) (Some (Crash k)) (cond (is_letter 68 letter) (Some (Deliver k)) None)))
+    cond (is_letter 67 letter) (Some (Act (Call k)))
+    (cond (is_letter 83 letter) (Some (Act (Step k))) (cond (is_letter 88 letter) (Some (Act (Crash k))) (cond (is_letter 68 letter) (Some (Act (Deliver k))) None)))
 
 -- an opening has four fields, and comes while none has been accepted; every other record has two, and comes behind it
 abbrev pub of_fields : Bool → List (List ℕ) → Option Record

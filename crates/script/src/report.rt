@@ -1,13 +1,15 @@
 // What became of a record, and the line that tells it.
 ghost use Rattle.std.specs.Prelude.{◌≡◌, Some};
-ghost use Rattle.script.specs.Lines.{act_letter, first_column, second_column, third_column, answer_letter, fourth_column, line_of};
+ghost use Rattle.script.specs.Lines.{kind_of_act, act_letter, first_column, second_column, third_column, fourth_column, line_of};
 
 use std::fmt;
+use terms::act::Act;
 use terms::answer::Answer;
 use terms::refusal::Refusal;
 
-#[derive(Clone, Copy)]
-pub enum Act {
+// What was asked for: an opening, or one of the acts.
+#[derive(Clone, Copy, Debug, PartialEq, Eq)]
+pub enum Kind {
     Open,
     Call,
     Step,
@@ -15,92 +17,61 @@ pub enum Act {
     Deliver,
 }
 
-#[derive(Drop)]
+#[derive(Clone, Copy, Debug, PartialEq, Eq)]
 pub enum Report {
     // The bytes are no record.
     NoRecord,
-    Refused(Act, Refusal),
+    Refused(Kind, Refusal),
     Opened,
     // A controller did something; its answer, if it has one by now.
     Acted {
-        act: Act,
+        kind: Kind,
         name: u32,
         answer: Option<Answer>,
     },
 }
 
-impl Act {
-    fn letter(&self) -> char
-        ensures { result ≡ act_letter self.now }
-    {
-        match self {
-            Act::Open => 'O',
-            Act::Call => 'C',
-            Act::Step => 'S',
-            Act::Crash => 'X',
-            Act::Deliver => 'D',
+impl From<Act> for Kind {
+    ghost from_gives = { λ act r. r ≡ kind_of_act act };
+
+    fn from(act: Act) -> Kind {
+        match act {
+            Act::Call(_) => Kind::Call,
+            Act::Step(_) => Kind::Step,
+            Act::Crash(_) => Kind::Crash,
+            Act::Deliver(_) => Kind::Deliver,
         }
     }
 }
 
-fn letter_of(answer: Option<Answer>) -> char
-    ensures { result ≡ answer_letter answer }
-{
-    match answer {
-        Some(answer) => char::from(answer),
-        None => '-',
+impl From<Kind> for char {
+    ghost from_gives = { λ kind r. r ≡ act_letter kind };
+
+    fn from(kind: Kind) -> char {
+        match kind {
+            Kind::Open => 'O',
+            Kind::Call => 'C',
+            Kind::Step => 'S',
+            Kind::Crash => 'X',
+            Kind::Deliver => 'D',
+        }
     }
 }
 
 impl Report {
-    fn letter(&self) -> char
-        ensures { result ≡ first_column self.now }
+    // The four columns: a letter, the refusal's number, the controller acted on and its answer.
+    fn columns(&self) -> (char, u8, u32, char)
+        ensures { result ≡ (first_column self.now, second_column self.now, third_column self.now, fourth_column self.now) }
     {
         match *self {
-            Report::NoRecord => '?',
-            Report::Refused(act, why) => {
-                if u8::from(why) == 15 {
-                    '?'
-                } else {
-                    act.letter()
-                }
-            }
-            Report::Opened => 'O',
-            Report::Acted { act, .. } => act.letter(),
-        }
-    }
-
-    fn number(&self) -> u8
-        ensures { result ≡ second_column self.now }
-    {
-        match *self {
-            Report::NoRecord => 15,
-            Report::Refused(_, why) => u8::from(why),
-            Report::Opened => 0,
-            Report::Acted { .. } => 0,
-        }
-    }
-
-    fn name(&self) -> u32
-        ensures { result ≡ third_column self.now }
-    {
-        match *self {
-            Report::NoRecord => 0,
-            Report::Refused(_, _) => 0,
-            Report::Opened => 0,
-            Report::Acted { name, .. } => name,
-        }
-    }
-
-    fn answer(&self) -> char
-        ensures { result ≡ fourth_column self.now }
-    {
-        match *self {
-            Report::NoRecord => '-',
-            Report::Refused(_, _) => '-',
-            Report::Opened => '-',
-            Report::Acted { name, answer, .. } => {
-                if name == 0 { '-' } else { letter_of(answer) }
+            Report::NoRecord => ('?', 15, 0, '-'),
+            Report::Refused(_, Refusal::Line) => ('?', 15, 0, '-'),
+            Report::Refused(kind, why) => (char::from(kind), u8::from(why), 0, '-'),
+            Report::Opened => ('O', 0, 0, '-'),
+            Report::Acted { kind, name: 0, .. } => (char::from(kind), 0, 0, '-'),
+            Report::Acted { kind, name, answer } => {
+                let told = answer.map_or('-', char::from);
+                (char::from(kind), 0, name, told)
             }
         }
     }
@@ -110,10 +81,7 @@ impl fmt::Display for Report {
     ghost output = { λ x. Some (line_of x) };
 
     fn fmt<W: fmt::Write>(&self, f: &mut fmt::Formatter<W>) -> fmt::Result {
-        let letter = self.letter();
-        let number = self.number();
-        let name = self.name();
-        let answer = self.answer();
+        let (letter, number, name, answer) = self.columns();
         write!(f, "{letter},{number},{name},{answer}\r\n")
     }
 }

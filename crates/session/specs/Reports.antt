@@ -5,22 +5,15 @@ use Rattle.coins.specs.declared.Coins as coins
 use Rattle.park.specs.Host.{answer_of}
 use Rattle.park.specs.States.{State}
 use Rattle.promise.specs.Performs.{Performs}
-use Rattle.promise.specs.declared.act.Act.{Act}
-use Rattle.promise.specs.declared.act.Act.TheVariants.{Call, Step, Crash, Deliver}
+use Rattle.terms.specs.declared.act.Act.{Act}
+use Rattle.terms.specs.declared.act.Act.TheVariants.{Call, Step, Crash, Deliver}
 use Rattle.promise.specs.declared.act.Outcome.{Outcome}
 use Rattle.promise.specs.declared.act.Outcome.TheVariants.{Advanced, Crashed, Delivered}
-use Rattle.script.specs.declared.report.Act.{Act as Kind}
-use Rattle.script.specs.declared.report.Act.TheVariants as kind
+use Rattle.script.specs.Lines.{kind_of_act}
 use Rattle.script.specs.declared.report.Report.{Report}
 use Rattle.script.specs.declared.report.Report.TheVariants.{Refused, Acted}
 use Rattle.terms.specs.declared.answer.Answer.{Answer}
 use Rattle.terms.specs.declared.refusal.Refusal.{Refusal}
-
-abbrev pub kind_of_act : Act → Kind
-kind_of_act (Call p) = kind.Call
-kind_of_act (Step p) = kind.Step
-kind_of_act (Crash p) = kind.Crash
-kind_of_act (Deliver pick) = kind.Deliver
 
 -- the controller that an act names, and the receiver of a delivery
 abbrev pub acted_on : Act → Outcome → ℕ

@@ -4,6 +4,8 @@ use Rattle.script.specs.Lines.{line_of}
 use Rattle.script.specs.Records.{record_of}
 use Rattle.script.specs.Splits.{ended, unended, records}
 use Rattle.script.specs.declared.report.Report.{Report}
+use Rattle.script.specs.Splitters.{Holds}
+use Rattle.session.specs.declared.run.Teller.{Teller}
 use Rattle.session.specs.declared.session.Session.{Session}
 use Rattle.session.specs.Sessions.{Answers, is_open}
 
@@ -59,3 +61,25 @@ pub record PiecesMakeTheWhole : Type 0 where
 -- lines of which this holds are added to a text
 abbrev pub Adds : List ℕ → List ℕ → (List ℕ → Type 0) → Type 0
 Adds before after Told = (lines : List ℕ) × (after ≡ before ++ lines) × Told lines
+
+-- Below, the teller `before` has heard some bytes, whatever they are.
+
+-- it has heard these bytes more
+abbrev pub Hears : Teller → List ℕ → Teller → Type 0
+Hears before bytes after = (past : List ℕ) → Holds before.splitter past → Holds after.splitter (past ++ bytes)
+
+-- it answers what ends with one byte more
+abbrev pub AnswersByte : Teller → ℕ → Option Report → Teller → Type 0
+AnswersByte before byte told after = (past : List ℕ) → Holds before.splitter past → Tells past byte before.session told after.session
+
+-- it answers what the end of the script ends
+abbrev pub AnswersLast : Teller → Option Report → Teller → Type 0
+AnswersLast before told after = (past : List ℕ) → Holds before.splitter past → TellsLast past before.session told after.session
+
+-- it adds to a text the lines of the records that end with one of these bytes
+abbrev pub AddsLines : Teller → List ℕ → List ℕ → List ℕ → Teller → Type 0
+AddsLines before bytes text longer after = (past : List ℕ) → Holds before.splitter past → Adds text longer (λ lines. TellsAll past bytes before.session lines after.session)
+
+-- it adds to a text the line of a record that the end of the script ends
+abbrev pub AddsLast : Teller → List ℕ → List ℕ → Teller → Type 0
+AddsLast before text longer after = (past : List ℕ) → Holds before.splitter past → Adds text longer (λ lines. TellsRest past before.session lines after.session)

@@ -1,5 +1,5 @@
 -- What a session answers to each record, and what becomes of the session.
-use Rattle.std.specs.Prelude.{◌≡◌, ℕ, min, Bool, [], replicate, is_some, Some, None, Ok, Err, vec_items, vec_len, Option, Result}
+use Rattle.std.specs.Prelude.{◌≡◌, ℕ, min, Bool, true, false, [], replicate, Some, None, Ok, Err, vec_items, vec_len, Option, Result}
 use Rattle.std.specs.Global.{Vec}
 use Rattle.channel.specs.LineOrder.{waiting, places_of}
 use Rattle.channel.specs.contracts.line.LineChannel.TheImpl as line-channel
@@ -9,25 +9,30 @@ use Rattle.coins.specs.declared.seeded.Seeded.{Seeded}
 use Rattle.park.specs.Opening.{Opening}
 use Rattle.park.specs.declared.park.NotOpened.{NotOpened}
 use Rattle.park.specs.declared.park.Park.{Park}
-use Rattle.promise.specs.declared.act.Act.{Act}
-use Rattle.promise.specs.declared.act.Act.TheVariants as act
+use Rattle.terms.specs.declared.act.Act.{Act}
 use Rattle.script.specs.declared.record.Record.{Record}
-use Rattle.script.specs.declared.record.Record.TheVariants.{Open, Call, Step, Crash, Deliver}
-use Rattle.script.specs.declared.report.Act.TheVariants as kind
+use Rattle.script.specs.declared.record.Record.TheVariants as asked
+use Rattle.script.specs.declared.report.Kind.TheVariants as kind
 use Rattle.script.specs.declared.report.Report.{Report}
 use Rattle.script.specs.declared.report.Report.TheVariants.{NoRecord, Refused, Opened}
 use Rattle.terms.specs.declared.word.Cell.{Cell}
 use Rattle.terms.specs.declared.word.Cell.TheVariants.{Empty}
 use Rattle.session.specs.declared.session.Session.{Session}
+use Rattle.session.specs.declared.session.State.{State}
+use Rattle.session.specs.declared.session.State.TheVariants.{Before, Open}
 use Rattle.session.specs.Reports.{Reports}
 
+abbrev pub holds_park : State → Bool
+holds_park (Before cells) = false
+holds_park (Open park) = true
+
 abbrev pub is_open : Session → Bool
-is_open session = is_some session.park
+is_open session = holds_park session.state
 
 -- not open, with cells for the largest park
 pub record New (session : Session) : Type 0 where
   pub cells : Vec Cell
-  pub has : session ≡ record { cells = Some cells; park = None }
+  pub has : session ≡ record { state = Before cells }
   pub empty : vec_items cells ≡ replicate 15360 Empty
   pub enough : vec_len cells ≡ 15360
 
@@ -44,13 +49,13 @@ abbrev pub OpeningFor0 : ℕ → ℕ → Vec Cell → Line → Result (Park Line
 OpeningFor0 n seed cells line result = Opening line-channel.ghosts n 0 (record { cells = cells; channel = line; coins = record { seed = seed } }) result
 
 -- an accepted opening is told, and its park is kept; a refused one is told with its refusal, and its cells are taken back
-abbrev pub TakesUp : Session → Result (Park Line Seeded) (NotOpened Line Seeded) → Report → Session → Type 0
-TakesUp before (Ok park) report after = (report ≡ Opened) × (after ≡ record { cells = before.cells; park = Some park })
-TakesUp before (Err back) report after = (report ≡ Refused kind.Open back.refusal) × (after ≡ record { cells = Some back.supplies.cells; park = before.park })
+abbrev pub TakesUp : Result (Park Line Seeded) (NotOpened Line Seeded) → Report → State → Type 0
+TakesUp (Ok park) report after = (report ≡ Opened) × (after ≡ Open park)
+TakesUp (Err back) report after = (report ≡ Refused kind.Open back.refusal) × (after ≡ Before back.supplies.cells)
 
 -- an accepted opening makes the session open; a refused one leaves it as it was
 abbrev pub TellsOpening : Session → Result (Park Line Seeded) (NotOpened Line Seeded) → Report → Session → Type 0
-TellsOpening before (Ok park) report after = (report ≡ Opened) × (after ≡ record { cells = None; park = Some park })
+TellsOpening before (Ok park) report after = (report ≡ Opened) × (after ≡ record { state = Open park })
 TellsOpening before (Err back) report after = (report ≡ Refused kind.Open back.refusal) × (after ≡ before)
 
 -- a park is opened over these cells and an empty line, and the opening is told
@@ -62,21 +67,17 @@ pub record Opens (before : Session) (cells : Vec Cell) (n places seed : ℕ) (re
   pub told : TellsOpening before result report after
 
 -- a session opens once, over its cells
-abbrev pub OpensOnce : Option (Park Line Seeded) → Option (Vec Cell) → Session → ℕ → ℕ → ℕ → Report → Session → Type 0
-OpensOnce None (Some cells) before n places seed report after = Opens before cells n places seed report after
-OpensOnce None None before n places seed report after = Unread before report after
-OpensOnce (Some park) cells before n places seed report after = Unread before report after
+abbrev pub OpensOnce : State → Session → ℕ → ℕ → ℕ → Report → Session → Type 0
+OpensOnce (Before cells) before n places seed report after = Opens before cells n places seed report after
+OpensOnce (Open park) before n places seed report after = Unread before report after
 
 -- an act on the open park is performed and reported; before an opening there is none to act on
-abbrev pub Acts : Option (Park Line Seeded) → Session → Act → Report → Session → Type 0
-Acts None before act report after = Unread before report after
-Acts (Some park) before act report after =
-    (later : Park Line Seeded) × (after ≡ record { cells = before.cells; park = Some later }) × Reports line-channel.ghosts seeded-coins.ghosts park act report later
+abbrev pub Acts : State → Session → Act → Report → Session → Type 0
+Acts (Before cells) before act report after = Unread before report after
+Acts (Open park) before act report after =
+    (later : Park Line Seeded) × (after ≡ record { state = Open later }) × Reports line-channel.ghosts seeded-coins.ghosts park act report later
 
 abbrev pub Answers : Session → Option Record → Report → Session → Type 0
 Answers before None report after = Unread before report after
-Answers before (Some (Open n places seed)) report after = OpensOnce before.park before.cells before n places seed report after
-Answers before (Some (Call p)) report after = Acts before.park before (act.Call p) report after
-Answers before (Some (Step p)) report after = Acts before.park before (act.Step p) report after
-Answers before (Some (Crash p)) report after = Acts before.park before (act.Crash p) report after
-Answers before (Some (Deliver pick)) report after = Acts before.park before (act.Deliver pick) report after
+Answers before (Some (asked.Open n places seed)) report after = OpensOnce before.state before n places seed report after
+Answers before (Some (asked.Act act)) report after = Acts before.state before act report after

@@ -6,18 +6,25 @@ use super::act::act_on;
 use channel::line::Line;
 use coins::seeded::Seeded;
 use park::park::{NotOpened, Park, Supplies};
-use promise::act::Act;
 use promise::open::open;
 use script::record::Record;
-use script::report::{Act as Kind, Report};
+use script::report::{Kind, Report};
 use std::alloc::{AllocError, Global};
-use terms::message::{Kind as MessageKind, Message};
-use terms::word::{Cell, Place, Word};
+use std::mem;
+use terms::act::Act;
+use terms::message::Message;
+use terms::word::Cell;
+
+#[derive(Drop)]
+enum State {
+    // No park is open yet; these cells are for it.
+    Before(Vec<Cell>),
+    Open(Park<Line, Seeded>),
+}
 
 #[derive(Drop)]
 pub struct Session {
-    cells: Option<Vec<Cell>>,
-    park: Option<Park<Line, Seeded>>,
+    state: State,
 }
 
 impl Session {
@@ -27,15 +34,14 @@ impl Session {
     {
         let cells = vec![in heap; Cell::Empty; 15360]?;
         Ok(Session {
-            cells: Some(cells),
-            park: None,
+            state: State::Before(cells),
         })
     }
 
     pub fn is_open(&self) -> bool
         ensures { result ≡ is_open self.now }
     {
-        self.park.is_some()
+        matches!(self.state, State::Open(_))
     }
 
     // Does what a record asks, and reports it. Without memory for a channel nothing changes.
@@ -45,54 +51,49 @@ impl Session {
         match asked {
             None => Ok(Report::NoRecord),
             Some(Record::Open { n, places, seed }) => self.open(heap, n, places, seed),
-            Some(Record::Call(p)) => Ok(self.act(Act::Call(p))),
-            Some(Record::Step(p)) => Ok(self.act(Act::Step(p))),
-            Some(Record::Crash(p)) => Ok(self.act(Act::Crash(p))),
-            Some(Record::Deliver(pick)) => Ok(self.act(Act::Deliver(pick))),
+            Some(Record::Act(act)) => Ok(self.act(act)),
         }
     }
 
     // Opens the park, once. A refused opening may be tried again.
     fn open(&mut self, heap: Global, n: u32, places: u32, seed: u64) -> Result<Report, AllocError>
-        ensures { MatchResult result (λ report. OpensOnce self.old.park self.old.cells self.old n places seed report self.new) (λ _. self.new ≡ self.old) }
+        ensures { MatchResult result (λ report. OpensOnce self.old.state self.old n places seed report self.new) (λ _. self.new ≡ self.old) }
     {
-        if self.is_open() {
-            return Ok(Report::NoRecord);
-        }
-        let line = new_line(heap, places)?;
-        let Some(cells) = self.cells.take() else {
-            return Ok(Report::NoRecord);
-        };
-        Ok(self.take_up(open_park(n, seed, cells, line)))
-    }
-
-    // Keeps the park that an opening gave, or takes back the cells of a refused one.
-    fn take_up(&mut self, opened: Result<Park<Line, Seeded>, NotOpened<Line, Seeded>>) -> Report
-        ensures { TakesUp self.old opened result self.new }
-    {
-        match opened {
-            Ok(park) => {
-                self.park = Some(park);
-                Report::Opened
-            }
-            Err(NotOpened { refusal, supplies }) => {
-                let Supplies {
-                    cells,
-                    channel: _,
-                    coins: _,
-                } = supplies;
-                self.cells = Some(cells);
-                Report::Refused(Kind::Open, refusal)
+        match &mut self.state {
+            State::Open(_) => Ok(Report::NoRecord),
+            State::Before(cells) => {
+                let line = new_line(heap, places)?;
+                let cells = mem::replace(cells, Vec::new(heap));
+                let (state, report) = take_up(open_park(n, seed, cells, line));
+                self.state = state;
+                Ok(report)
             }
         }
     }
 
     fn act(&mut self, act: Act) -> Report
-        ensures { Acts self.old.park self.old act result self.new }
+        ensures { Acts self.old.state self.old act result self.new }
     {
-        match &mut self.park {
-            Some(park) => act_on(park, act),
-            None => Report::NoRecord,
+        match &mut self.state {
+            State::Open(park) => act_on(park, act),
+            State::Before(_) => Report::NoRecord,
+        }
+    }
+}
+
+// Keeps the park that an opening gave, or takes back the cells of a refused one.
+fn take_up(opened: Result<Park<Line, Seeded>, NotOpened<Line, Seeded>>) -> (State, Report)
+    ensures { TakesUp opened result.1 result.0 }
+{
+    match opened {
+        Ok(park) => (State::Open(park), Report::Opened),
+        Err(NotOpened { refusal, supplies }) => {
+            let Supplies {
+                cells,
+                channel: _,
+                coins: _,
+            } = supplies;
+            (State::Before(cells), Report::Refused(Kind::Open, refusal))
         }
     }
 }
@@ -101,7 +102,7 @@ impl Session {
 fn new_line(heap: Global, places: u32) -> Result<Line, AllocError>
     ensures { IfOk result (EmptyLine places) }
 {
-    let memory = vec![in heap; no_message(); places as usize]?;
+    let memory = vec![in heap; Message::default(); places as usize]?;
     Ok(Line::new(memory))
 }
 
@@ -123,24 +124,4 @@ fn open_park(
             coins: Seeded { seed },
         },
     )
-}
-
-// What fills the memory of a channel before messages do.
-fn no_message() -> Message {
-    let place = Place {
-        selector: 0,
-        round: 0,
-        phase: 0,
-    };
-    let word = Word {
-        group: None,
-        name: None,
-    };
-    Message {
-        kind: MessageKind::Phase,
-        sender: 0,
-        receiver: 0,
-        place,
-        word,
-    }
 }

@@ -1,6 +1,7 @@
 // The terms of the park: sides, words, places, cells, messages, answers, refusals, and the controllers' rules.
 #![tactic(auto)]
 
+pub mod act;
 pub mod answer;
 pub mod entries;
 pub mod heard;

@@ -22,7 +22,7 @@ use Rattle.park.specs.Controllers.{after_echo, answered, has_called, ready_at}
 use Rattle.park.specs.Messages.{If, Takes, echo_of, kept}
 use Rattle.park.specs.Refusals.{first, name_refusal, too_few_places, when}
 use Rattle.park.specs.States.{State, of, with_channel, with_controller, with_controllers}
-use Rattle.promise.specs.declared.act.Act.TheVariants.{Call, Step, Deliver}
+use Rattle.terms.specs.declared.act.Act.TheVariants.{Call, Step, Deliver}
 use Rattle.promise.specs.declared.act.Outcome.TheVariants.{Advanced, Delivered}
 use Rattle.promise.specs.Promise.{OpenedRound}
 use Rattle.promise.specs.Runs.{performed, Event, History, Does, Run, start, then}

@@ -31,7 +31,7 @@ use Rattle.park.specs.Opening.{all_uncalled}
 use Rattle.park.specs.Permits.{Collects, Tells}
 use Rattle.park.specs.Refusals.{Unless, name_refusal, when}
 use Rattle.park.specs.States.{State, of, with_controller, with_desk}
-use Rattle.promise.specs.declared.act.Act.TheVariants.{Call, Step}
+use Rattle.terms.specs.declared.act.Act.TheVariants.{Call, Step}
 use Rattle.promise.specs.declared.act.Outcome.TheVariants.{Advanced}
 use Rattle.promise.specs.Promise as promise
 use Rattle.promise.specs.Runs.{performed, collected, loaded, dispatched, History, Does, Run, start, then}

@@ -1,9 +1,0 @@
-use Rattle.std.proofs.Common.{ℕ, List, ◌++◌, take, string_bytes}
-use Rattle.script.specs.Splitters.{Holds}
-use Rattle.session.specs.Scripts.{Adds, TellsAll}
-use Rattle.session.proofs.run.tell_all.Given as goal
-
-abbrev pub invariant-loop-i : goal.invariant-loop-i
-invariant-loop-i l = (past : List ℕ) → Holds l.initial.splitter past
-    → Holds l.splitter (past ++ take l.i l.bytes)
-    × Adds (string_bytes l.initial.text) (string_bytes l.text) (λ lines. TellsAll past (take l.i l.bytes) l.initial.session lines l.session)
