@@ -5,7 +5,7 @@ use std::alloc::AllocError;
 use std::marker::Model;
 
 // The first `count` places hold the entries; every place behind them is blank.
-// kept: an array with a count in place of a Vec, since the park takes its memory from its host and has no heap.
+// kept: an array with a count in place of a Vec, since the park takes its memory from its host and has no heap; and not the library's ArrayVec, since what was heard is Copy.
 pub struct Entries<T> {
     pub(crate) list: [Option<T>; 15],
     pub(crate) count: usize,
