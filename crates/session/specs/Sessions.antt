@@ -4,7 +4,7 @@ use Rattle.std.specs.Global.{Vec}
 use Rattle.channel.specs.LineOrder.{waiting, places_of}
 use Rattle.channel.specs.contracts.line.LineChannel.TheImpl as line-channel
 use Rattle.channel.specs.declared.line.Line.{Line}
-use Rattle.coins.specs.contracts.seeded.SeededCoins.TheImpl as seeded-coins
+use Rattle.coins.specs.SeededCoins as seeded-coins
 use Rattle.coins.specs.declared.seeded.Seeded.{Seeded}
 use Rattle.park.specs.Opening.{Opening}
 use Rattle.park.specs.declared.park.NotOpened.{NotOpened}

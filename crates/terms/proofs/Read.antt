@@ -13,7 +13,7 @@ use Rattle.terms.specs.contracts.word.SideOrd.TheImpl as side_order
 use Rattle.terms.specs.contracts.word.SidePartialEq.TheImpl as side_eq
 use Rattle.terms.specs.declared.word.Side.{Side}
 use Rattle.terms.specs.declared.word.Side.TheVariants.{Zero, One}
-use Rattle.terms.specs.Readings.{alike, every, reading_of, smaller, smallest_of, same_side, below_side}
+use Rattle.terms.specs.Readings.{Answers, alike, every, reading_of, smaller, smallest_of, same_side, below_side}
 
 and_is : (a b : Bool) → (a && b) ≡ cond a b false
 and_is true b = refl
@@ -66,27 +66,38 @@ module _ {A : Type 0} (order : A → A → Ordering) (total : IsTotalOrder order
   smallest_is (None ∷ xs) = smallest_is xs
   smallest_is (Some a ∷ xs) = sym (smallest_with a xs)
 
--- a side's and a number's own comparisons are the tests of the rules
-pub side_same : (a b : Side) → side_eq.ghosts.eq a b ≡ same_side a b
+module _ {A : Type 0} (own test : A → A → Bool) (says : Answers (λ x y b. b ≡ own x y) test) where
+  they_agree : own ≡ test
+  they_agree = fun_ext (λ x. fun_ext (λ y. says x y (own x y) refl))
+
+  -- a test that says what the type's own comparison answers gives the same reading and the same smallest entry
+  pub reading_by : (xs : List (Option A)) → reading_of own xs ≡ reading_of test xs
+  reading_by xs = ap (λ (f : A → A → Bool). reading_of f xs) they_agree
+
+  pub smallest_by : (xs : List (Option A)) → smallest_of own None xs ≡ smallest_of test None xs
+  smallest_by xs = ap (λ (f : A → A → Bool). smallest_of f None xs) they_agree
+
+side_same : (a b : Side) → side_eq.ghosts.eq a b ≡ same_side a b
 side_same Zero Zero = refl
 side_same Zero One = refl
 side_same One Zero = refl
 side_same One One = refl
 
-pub side_below : (a b : Side) → is_lt (side_order.ghosts.cmp a b) ≡ below_side a b
+side_below : (a b : Side) → is_lt (side_order.ghosts.cmp a b) ≡ below_side a b
 side_below Zero Zero = refl
 side_below Zero One = refl
 side_below One Zero = refl
 side_below One One = refl
 
-pub read_sides : (xs : List (Option Side)) → reading_of side_eq.ghosts.eq xs ≡ reading_of same_side xs
-read_sides xs = ap (λ (f : Side → Side → Bool). reading_of f xs) (fun_ext (λ a. fun_ext (side_same a)))
-
-pub smallest_side : (xs : List (Option Side)) → smallest_of (λ x y. is_lt (side_order.ghosts.cmp x y)) None xs ≡ smallest_of below_side None xs
-smallest_side xs = ap (λ (f : Side → Side → Bool). smallest_of f None xs) (fun_ext (λ a. fun_ext (side_below a)))
-
 number_below : (a b : ℕ) → is_lt (nat_cmp a b) ≡ ltb a b
 number_below a b = search rules
 
+-- a side's and a number's own comparisons are the tests of the rules
+pub read_sides : (xs : List (Option Side)) → reading_of side_eq.ghosts.eq xs ≡ reading_of same_side xs
+read_sides = reading_by side_eq.ghosts.eq same_side (λ a b r e. e ∙ side_same a b)
+
+pub smallest_side : (xs : List (Option Side)) → smallest_of (λ x y. is_lt (side_order.ghosts.cmp x y)) None xs ≡ smallest_of below_side None xs
+smallest_side = smallest_by (λ x y. is_lt (side_order.ghosts.cmp x y)) below_side (λ a b r e. e ∙ side_below a b)
+
 pub smallest_number : (xs : List (Option ℕ)) → smallest_of (λ x y. is_lt (nat_cmp x y)) None xs ≡ smallest_of ltb None xs
-smallest_number xs = ap (λ (f : ℕ → ℕ → Bool). smallest_of f None xs) (fun_ext (λ a. fun_ext (number_below a)))
+smallest_number = smallest_by (λ x y. is_lt (nat_cmp x y)) ltb (λ a b r e. e ∙ number_below a b)

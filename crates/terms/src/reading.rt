@@ -1,8 +1,6 @@
 // The reading rule and the smallest entry, for groups, names and further kinds.
 ghost use Rattle.std.specs.Prelude.{◌≡◌, None};
 ghost use Rattle.std.specs.Ordering.{is_lt};
-ghost use Rattle.std.specs.List.{list_all};
-ghost use Rattle.std.specs.Option.{option_eq};
 ghost use Rattle.terms.specs.Readings.{alike, every, reading_of, smallest_of};
 
 // The reading of a list: the common entry if all are equal; blank otherwise, and for an empty list.

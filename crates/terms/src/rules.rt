@@ -29,8 +29,8 @@ pub struct Heard<'a> {
 }
 
 impl Heard<'_> {
-    #[tactic(auto, using(crate::proofs::Read::read_sides))]
     // After phase 1: the word with which phase 2 is opened.
+    #[tactic(auto, using(crate::proofs::Read::read_sides))]
     pub fn word_of_phase_2(self) -> Word
         ensures { result ≡ second_word self.entry.groups.now self.entry.names.now }
     {
@@ -40,8 +40,8 @@ impl Heard<'_> {
         }
     }
 
-    #[tactic(auto, using(crate::proofs::Read::read_sides, crate::proofs::Read::smallest_side, crate::proofs::Read::smallest_number))]
     // After phase 2: the first of the four rules that fits.
+    #[tactic(auto, using(crate::proofs::Read::read_sides, crate::proofs::Read::smallest_side, crate::proofs::Read::smallest_number))]
     pub fn verdict_of_phase_2(self, me: u8, own: Side, round: u8, coin: Side) -> Verdict
         ensures { result ≡ verdict_of me own round coin self.entry.groups.now self.entry.names.now }
     {
