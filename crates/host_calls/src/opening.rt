@@ -1,6 +1,6 @@
 // Openings, refused and accepted, and what comes back.
 use super::host::{VEHICLE, supplies, write_cells};
-use super::words::{blank_message, places};
+use super::words::places;
 use channel::channel::Channel;
 use channel::line::Line;
 use coins::seeded::Seeded;
@@ -140,7 +140,7 @@ fn try_opening(rt: &HostRuntime, opening: Opening) -> anyhow::Result<()> {
     print!(rt; "open {n} controllers, {cells} cells, {count} places, {waiting} waiting: ")?;
     let mut channel = Line::new(places(rt, count)?);
     for _ in 0..waiting {
-        channel.send(blank_message())?;
+        channel.send(Message::default())?;
     }
     match open(n, VEHICLE, supplies(rt, cells, channel)?) {
         Ok(park) => {

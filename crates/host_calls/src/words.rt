@@ -4,29 +4,9 @@ use std::fmt;
 use terms::message::{Kind, Mark, Message};
 use terms::word::{Cell, Place, Side, Word};
 
-// What fills the memory of a channel before messages do.
-pub fn blank_message() -> Message {
-    let place = Place {
-        selector: 0,
-        round: 0,
-        phase: 0,
-    };
-    let word = Word {
-        group: None,
-        name: None,
-    };
-    Message {
-        kind: Kind::Phase,
-        sender: 0,
-        receiver: 0,
-        place,
-        word,
-    }
-}
-
 // Memory for so many messages.
 pub(crate) fn places(rt: &HostRuntime, count: usize) -> Result<Vec<Message>, AllocError> {
-    vec![in rt.alloc(); blank_message(); count]
+    vec![in rt.alloc(); Message::default(); count]
 }
 
 // The word that fills the cells before a park is opened.

@@ -2,7 +2,7 @@
 use super::acts::{ACTS, STAYS};
 use super::crossing::{Crossing, cross};
 use super::words::{
-    answer_word, blank_message, group_word, name_word, number_in, refusal_word, stage_word, station,
+    answer_word, group_word, name_word, number_in, refusal_word, stage_word, station,
 };
 use anyhow::anyhow;
 use channel::bag::Bag;
@@ -13,6 +13,7 @@ use promise::open::open;
 use promise::perform::perform;
 use std::io;
 use terms::answer::{Answer, Progress};
+use terms::message::Message;
 use terms::word::{Cell, Place, Word};
 
 const BOAT: u32 = 7;
@@ -34,7 +35,7 @@ impl<'a> Tale<'a> {
     pub fn open(rt: &'a HostRuntime) -> anyhow::Result<Tale<'a>> {
         let heap = rt.alloc();
         let cells = vec![in heap; Cell::Empty; 3072]?;
-        let places = vec![in heap; blank_message(); 20]?;
+        let places = vec![in heap; Message::default(); 20]?;
         let supplies = Supplies {
             cells,
             channel: Bag::new(places),

@@ -3,9 +3,8 @@
 use permit::desk::PermitStage;
 use promise::act::Act;
 use terms::answer::Answer;
-use terms::message::{Kind, Message};
 use terms::refusal::Refusal;
-use terms::word::{Place, Side, Word};
+use terms::word::Side;
 
 pub fn station(p: u32) -> &'static str {
     match p {
@@ -65,25 +64,5 @@ pub fn stage_word(stage: PermitStage) -> &'static str {
 pub fn number_in(act: Act) -> u32 {
     match act {
         Act::Call(number) | Act::Step(number) | Act::Crash(number) | Act::Deliver(number) => number,
-    }
-}
-
-// What fills the memory of a channel before messages do.
-pub fn blank_message() -> Message {
-    let place = Place {
-        selector: 0,
-        round: 0,
-        phase: 0,
-    };
-    let word = Word {
-        group: None,
-        name: None,
-    };
-    Message {
-        kind: Kind::Phase,
-        sender: 0,
-        receiver: 0,
-        place,
-        word,
     }
 }
