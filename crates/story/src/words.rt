@@ -23,6 +23,7 @@ pub fn answer_word(answer: Answer) -> &'static str {
     }
 }
 
+// kept: host_calls has the same words for a group, but the two programs share no crate that has words.
 pub fn group_word(group: Option<Side>) -> &'static str {
     match group {
         Some(Side::Zero) => "group 0",
