@@ -7,6 +7,7 @@ use coins::seeded::Seeded;
 use park::park::{NotOpened, Supplies};
 use promise::open::open;
 use std::io;
+use terms::message::Message;
 
 // How many controllers, cells and places, and how many messages wait.
 #[derive(Clone, Copy)]

@@ -16,13 +16,7 @@ pub const FILLING: Word = Word {
 };
 
 pub fn is_filling(cell: &Cell) -> bool {
-    matches!(
-        cell,
-        Cell::Holds(Word {
-            group: Some(Side::One),
-            name: Some(9),
-        })
-    )
+    *cell == Cell::Holds(FILLING)
 }
 
 // A message with group 0, of its sender and receiver, its selector, round and phase, and the name in its word.
