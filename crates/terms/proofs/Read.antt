@@ -7,8 +7,7 @@ use Rattle.std.specs.List.{list_all, filter_map, fold, reduce}
 use Rattle.std.specs.Option.{option_eq}
 use Rattle.std.specs.declared.cmp.Ordering.{Ordering}
 use Rattle.std.specs.declared.cmp.Ordering.TheVariants.{Less, Equal, Greater}
-use Rattle.std.specs.Ordering.{min_by_ordering, ordering_reverse}
-use Rattle.std.specs.Ordering.{nat_cmp}
+use Rattle.std.specs.Ordering.{min_by_ordering, nat_cmp, ordering_reverse}
 use Rattle.terms.specs.contracts.word.SideOrd.TheImpl as side_order
 use Rattle.terms.specs.contracts.word.SidePartialEq.TheImpl as side_eq
 use Rattle.terms.specs.declared.word.Side.{Side}
@@ -32,13 +31,14 @@ module _ {A : Type 0} (same : A → A → Bool) where
       and_is (option_eq same x y) (list_all (option_eq same x) ys) ∙ ap (λ t. cond t (list_all (option_eq same x) ys) false) (alike_is x y)
       ∙ ap (λ t. cond (alike same x y) t false) (all_alike_is x ys)
 
-  pub reading_is : (xs : List (Option A)) (first : Option A) (r : Bool) → 1 ≤ length xs → first ≡ get_or xs 0 first
-      → r ≡ every (alike same first) (take (length xs - 1) (drop 1 xs)) → cond r first None ≡ reading_of same xs
-  reading_is [] first r h e t = absurd (omega arith)
-  reading_is (x ∷ xs) first r h e t =
+  -- the first entry, if that is what the test of the others came to, else a blank
+  pub reading_is : (xs : List (Option A)) (first : Option A) (r b : Bool) → 1 ≤ length xs → first ≡ get_or xs 0 first
+      → r ≡ every (alike same first) (take (length xs - 1) (drop 1 xs)) → r ≡ b → cond b first None ≡ reading_of same xs
+  reading_is [] first r b h e t c = absurd (omega arith)
+  reading_is (x ∷ xs) first r b h e t c =
       let a : take (length (x ∷ xs) - 1) xs ≡ xs = take_all _ xs (omega arith) in
-      let q : every (alike same x) xs ≡ r = ap (λ y. every (alike same y) xs) (sym e) ∙ ap (every (alike same first)) (sym a) ∙ sym t in
-      sym (ap (λ b. cond b x None) q ∙ ap (λ y. cond r y None) (sym e))
+      let q : every (alike same x) xs ≡ b = ap (λ y. every (alike same y) xs) (sym e) ∙ ap (every (alike same first)) (sym a) ∙ sym t ∙ c in
+      sym (ap (λ b. cond b x None) q ∙ ap (λ y. cond b y None) (sym e))
 
 module _ {A : Type 0} (order : A → A → Ordering) (total : IsTotalOrder order) where
   by_order : (o : Ordering) (a b : A) → min_by_ordering o a b ≡ cond (is_lt (ordering_reverse o)) b a

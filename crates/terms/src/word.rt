@@ -23,6 +23,7 @@ pub struct Place {
 }
 
 // One cell of a page. A word of two blanks is not empty.
+// kept: not an Option of a Word, where an empty cell would be called None as the blanks of a word are.
 #[derive(Clone, Copy, Debug, Default, PartialEq, Eq)]
 pub enum Cell {
     #[default]
