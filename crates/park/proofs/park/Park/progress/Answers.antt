@@ -27,4 +27,4 @@ returns g c =
     let gs = front_is (λ w. w.group) h.result.groups h.result.count c.self.inside.head.n s.n _ (of s p) count few same h.ensures.groups in
     let ns = front_is (λ w. w.name) h.result.names h.result.count c.self.inside.head.n s.n _ (of s p) count few same h.ensures.names in
     c.progress_by.ensures ∙ ap (λ (l : List (Option Side)). progress_after g.C.Channel g.K.Coins s p l (take (h.result.count - 0) h.result.names) at) gs
-          ∙ ap (λ (l : List (Option ℕ)). progress_after g.C.Channel g.K.Coins s p (heard_groups s.n (of s p).heard (of s p).words) l at) ns
+    ∙ ap (λ (l : List (Option ℕ)). progress_after g.C.Channel g.K.Coins s p (heard_groups s.n (of s p).heard (of s p).words) l at) ns
