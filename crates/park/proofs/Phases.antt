@@ -44,7 +44,7 @@ module _ (p : ℕ) (at : Place) (w : Word) where
 
   -- PHASE has gone to the names below q, and now to q too, if that is another's
   module _ {C : Type 0} (sends : C → Message → C → Type 0) (bag : C → List Message) (places : C → ℕ)
-           (gains : (c : C) (m : Message) (d : C) → sends c m d → SameBag (m ∷ bag c) (bag d) × (places d ≡ places c)) where
+      (gains : (c : C) (m : Message) (d : C) → sends c m d → SameBag (m ∷ bag c) (bag d) × (places d ≡ places c)) where
     pub sent_self : (q : ℕ) (first now : C) → 1 ≤ q → q ≡ p → SentAll sends first (phases (q - 1) p at w) now → SentAll sends first (phases q p at w) now
     sent_self q first now a e before =
         let i : q - 1 + 1 ≡ q = omega arith in

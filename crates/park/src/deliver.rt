@@ -66,7 +66,9 @@ impl<C: Channel, K: Coins> Park<C, K> {
         requires free { length (C.Channel.bag self.old.channel) < C.Channel.places self.old.channel }
         ensures { Takes C.Channel Kind.Phase self.old m self.new }
     {
-        let kept = keep(&mut self.cells, Name { number: m.receiver }, PlaceWithin { place: m.place }, m.word);
+        let receiver = Name { number: m.receiver };
+        let at = PlaceWithin { place: m.place };
+        let kept = keep(&mut self.cells, receiver, at, m.word);
         let echo = Message {
             kind: Kind::Echo,
             sender: m.receiver,

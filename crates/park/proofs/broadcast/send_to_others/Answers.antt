@@ -16,10 +16,11 @@ loop-q-preserved g c =
     let next : q ≡ q + 1 - 1 = omega arith in
     subst (λ (i : ℕ). SentAll ch.sends first (phases i p at w) c.if-q-p.channel) next
     (elim c.if-q-p.branch [
-    then-q-p b ↦ subst (λ (d : g.row.C.Denot). SentAll ch.sends first (phases q p at w) d) (sym b.channel-is)
-      (sent_other p at w ch.sends ch.bag ch.places g.met.C.Channel.gains c.args.n q first c.loop-q.channel b.send.new.self c.args.p.named.0 c.requires.name c.loop-q.auto.q c.loop-q-test.true b.if-q-p.true c.requires.free c.loop-q.invariant (λ free. (b.send.ensures.accepted free).1))
-  | else-q-p b ↦ subst (λ (d : g.row.C.Denot). SentAll ch.sends first (phases q p at w) d) (sym b.channel-is)
-      (sent_self p at w ch.sends ch.bag ch.places g.met.C.Channel.gains q first c.loop-q.channel c.loop-q.auto.q b.if-q-p.false c.loop-q.invariant) ])
+      | then-q-p b ↦ subst (λ (d : g.row.C.Denot). SentAll ch.sends first (phases q p at w) d) (sym b.channel-is)
+          (sent_other p at w ch.sends ch.bag ch.places g.met.C.Channel.gains c.args.n q first c.loop-q.channel b.send.new.self c.args.p.named.0 c.requires.name c.loop-q.auto.q c.loop-q-test.true b.if-q-p.true c.requires.free c.loop-q.invariant (λ free. (b.send.ensures.accepted free).1))
+      | else-q-p b ↦ subst (λ (d : g.row.C.Denot). SentAll ch.sends first (phases q p at w) d) (sym b.channel-is)
+          (sent_self p at w ch.sends ch.bag ch.places g.met.C.Channel.gains q first c.loop-q.channel c.loop-q.auto.q b.if-q-p.false c.loop-q.invariant)
+    ])
 
 pub returns-after-q-p : goal.returns-after-q-p
 returns-after-q-p g c =
@@ -32,7 +33,8 @@ returns-after-q-p g c =
     let last : q ≡ c.args.n = search rules in
     subst (λ (i : ℕ). SentAll ch.sends first (phases i p at w) c.if-q-p.channel) last
     (elim c.if-q-p.branch [
-    then-q-p b ↦ subst (λ (d : g.row.C.Denot). SentAll ch.sends first (phases q p at w) d) (sym b.channel-is)
-      (sent_other p at w ch.sends ch.bag ch.places g.met.C.Channel.gains c.args.n q first c.loop-q.channel b.send.new.self c.args.p.named.0 c.requires.name c.loop-q.auto.q c.loop-q-test.true b.if-q-p.true c.requires.free c.loop-q.invariant (λ free. (b.send.ensures.accepted free).1))
-  | else-q-p b ↦ subst (λ (d : g.row.C.Denot). SentAll ch.sends first (phases q p at w) d) (sym b.channel-is)
-      (sent_self p at w ch.sends ch.bag ch.places g.met.C.Channel.gains q first c.loop-q.channel c.loop-q.auto.q b.if-q-p.false c.loop-q.invariant) ])
+      | then-q-p b ↦ subst (λ (d : g.row.C.Denot). SentAll ch.sends first (phases q p at w) d) (sym b.channel-is)
+          (sent_other p at w ch.sends ch.bag ch.places g.met.C.Channel.gains c.args.n q first c.loop-q.channel b.send.new.self c.args.p.named.0 c.requires.name c.loop-q.auto.q c.loop-q-test.true b.if-q-p.true c.requires.free c.loop-q.invariant (λ free. (b.send.ensures.accepted free).1))
+      | else-q-p b ↦ subst (λ (d : g.row.C.Denot). SentAll ch.sends first (phases q p at w) d) (sym b.channel-is)
+          (sent_self p at w ch.sends ch.bag ch.places g.met.C.Channel.gains q first c.loop-q.channel c.loop-q.auto.q b.if-q-p.false c.loop-q.invariant)
+    ])

@@ -1,4 +1,4 @@
-use Rattle.std.proofs.Common.{rules, refl, Some, None}
+use Rattle.std.proofs.Common.{rules}
 use Rattle.park.proofs.Received.{left_by}
 use Rattle.park.proofs.park.Park.deliver.Goals as goal
 
