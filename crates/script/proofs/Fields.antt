@@ -44,7 +44,7 @@ module _ {S A B : Type 0} (steps : S → Option A → S → Type 0) (v : A → B
 -- five calls of `next` give the first five fields
 pub front_is : {F : Type 0} (g : Mut F (Bor ℕ × Unit {0}) Bool) (bs : List ℕ) (s0 s1 s2 s3 s4 s5 : Split ℕ F) (r0 r1 r2 r3 r4 : Option (Bor (List ℕ))) (f : F)
     → split_steps g s0 r0 s1 → split_steps g s1 r1 s2 → split_steps g s2 r2 s3 → split_steps g s3 r3 s4 → split_steps g s4 r4 s5
-    → split_rest s0 ≡ bs → split_done s0 ≡ false → split_callee s0 ≡ f → ((x : ℕ) (b : Bool) (q : F) → CalledAt g f x b q → (q ≡ f) × (b ≡ (x == 44))) → IsFront (fields bs) (r0, r1, r2, r3, r4)
+    → split_rest s0 ≡ bs → split_done s0 ≡ false → split_callee s0 ≡ f → ((x : ℕ) (b : Bool) (q : F) → CalledAt g f x b q → (q ≡ f) × (b ≡ (x == 44))) → IsFront (fields bs) (r0 ∷ r1 ∷ r2 ∷ r3 ∷ r4 ∷ [])
 front_is g bs s0 s1 s2 s3 s4 s5 r0 r1 r2 r3 r4 f k0 k1 k2 k3 k4 rest done callee tests =
     let fs : List (List ℕ) = fields bs in
     let one = next_is (split_steps g) (λ x. x.now) (λ s t k. k.1) in
@@ -54,17 +54,11 @@ front_is g bs s0 s1 s2 s3 s4 s5 r0 r1 r2 r3 r4 f k0 k1 k2 k3 k4 rest done callee
     let h3 = one s2 s3 r2 (drop 1 (drop 1 fs)) h2.1 k2 in
     let h4 = one s3 s4 r3 (drop 1 (drop 1 (drop 1 fs))) h3.1 k3 in
     let h5 = one s4 s5 r4 (drop 1 (drop 1 (drop 1 (drop 1 fs)))) h4.1 k4 in
-    (h1.0, h2.0 ∙ simp get_later, h3.0 ∙ simp get_later, h4.0 ∙ simp get_later, h5.0 ∙ simp get_later)
-
--- four fields and no fifth
-pub four : (fs : List (List ℕ)) (r0 r1 r2 r3 r4 : Option (Bor (List ℕ))) (a b c d : Bor (List ℕ)) → IsFront fs (r0, r1, r2, r3, r4)
-    → r0 ≡ Some a → r1 ≡ Some b → r2 ≡ Some c → r3 ≡ Some d → r4 ≡ None → fs ≡ a.now ∷ b.now ∷ c.now ∷ d.now ∷ []
-four [] r0 r1 r2 r3 r4 a b c d h e0 e1 e2 e3 e4 = cc
-four (x ∷ []) r0 r1 r2 r3 r4 a b c d h e0 e1 e2 e3 e4 = cc
-four (x ∷ y ∷ []) r0 r1 r2 r3 r4 a b c d h e0 e1 e2 e3 e4 = cc
-four (x ∷ y ∷ z ∷ []) r0 r1 r2 r3 r4 a b c d h e0 e1 e2 e3 e4 = cc
-four (x ∷ y ∷ z ∷ w ∷ []) r0 r1 r2 r3 r4 a b c d h e0 e1 e2 e3 e4 = cc
-four (x ∷ y ∷ z ∷ w ∷ v ∷ fs) r0 r1 r2 r3 r4 a b c d h e0 e1 e2 e3 e4 = cc
+    let g1 : option_map (λ x. x.now) r1 ≡ slice_get fs 1 = h2.0 ∙ simp get_later in
+    let g2 : option_map (λ x. x.now) r2 ≡ slice_get fs 2 = h3.0 ∙ simp get_later in
+    let g3 : option_map (λ x. x.now) r3 ≡ slice_get fs 3 = h4.0 ∙ simp get_later in
+    let g4 : option_map (λ x. x.now) r4 ≡ slice_get fs 4 = h5.0 ∙ simp get_later in
+    λ i. h1.0 i ∷ g1 i ∷ g2 i ∷ g3 i ∷ g4 i ∷ []
 
 -- ---- reading a number
 

@@ -21,15 +21,6 @@ pub(crate) const LONGEST: usize = 80;
 // The most digits that a number may have.
 const DIGITS: usize = 20;
 
-// The first five fields of a record, where there are so many.
-type Front<'a> = (
-    Option<&'a [u8]>,
-    Option<&'a [u8]>,
-    Option<&'a [u8]>,
-    Option<&'a [u8]>,
-    Option<&'a [u8]>,
-);
-
 fn are_digits(field: &[u8]) -> bool
     ensures { result ≡ list_all is_ascii_digit field.now }
 {
@@ -94,18 +85,18 @@ fn read_opening(letter: &[u8], n: &[u8], places: &[u8], seed: &[u8]) -> Option<R
     }
 }
 
-// The fields between the commas.
-fn read_front(bytes: &[u8]) -> Front<'_>
+// The first five fields, where there are so many.
+fn read_front(bytes: &[u8]) -> [Option<&[u8]>; 5]
     ensures { IsFront (fields bytes.now) result }
 {
     let mut fields = bytes.split(|byte| *byte == b',');
-    (
+    [
         fields.next(),
         fields.next(),
         fields.next(),
         fields.next(),
         fields.next(),
-    )
+    ]
 }
 
 // The record of any number of bytes; an opening comes once, and everything else behind it.
@@ -113,8 +104,8 @@ fn read_fields(bytes: &[u8], opened: bool) -> Option<Record>
     ensures { result ≡ of_fields opened (fields bytes.now) }
 {
     match (opened, read_front(bytes)) {
-        (true, (Some(letter), Some(number), None, _, _)) => read_act(letter, number),
-        (false, (Some(letter), Some(n), Some(places), Some(seed), None)) => {
+        (true, [Some(letter), Some(number), None, _, _]) => read_act(letter, number),
+        (false, [Some(letter), Some(n), Some(places), Some(seed), None]) => {
             read_opening(letter, n, places, seed)
         }
         _ => None,

@@ -17,6 +17,7 @@ pub enum Kind {
     Deliver,
 }
 
+// kept: no `Result`, since its line is written by `Display`, which only a type of this crate can have, and both outcomes have the same four columns.
 #[derive(Clone, Copy, Debug, PartialEq, Eq)]
 pub enum Report {
     // The bytes are no record.

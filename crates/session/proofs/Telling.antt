@@ -1,5 +1,5 @@
 -- What is told of some bytes, and then of some more, is told of them all.
-use Rattle.std.proofs.Common.{◌≡◌, ℕ, List, [], ◌∷◌, ◌++◌, IfOk, Some, None, Ok, Err, Result, sym, refl, ap, ◌∙◌, subst, append_assoc}
+use Rattle.std.proofs.Common.{◌≡◌, ℕ, List, [], ◌∷◌, ◌++◌, Some, None, sym, refl, ap, ◌∙◌, subst, append_assoc}
 use Rattle.std.proofs.lemmas.List.{append-nil}
 use Rattle.script.specs.Lines.{line_of}
 use Rattle.script.specs.Splits.{ended}
@@ -8,10 +8,6 @@ use Rattle.script.specs.declared.report.Report.{Report}
 use Rattle.session.specs.declared.run.Teller.{Teller}
 use Rattle.session.specs.declared.session.Session.{Session}
 use Rattle.session.specs.Scripts.{AddsLast, AddsLines, AnswersAll, AnswersByte, AnswersLast, AnswersText, Hears, PiecesMakeTheWhole, TellsAll, TellsRest, TellsScript, Writes, lines_of}
-
-pub where_made : {X Y : Type 0} (P Q : Type 0) (r : Result X Y) → (P → Q) → IfOk r (λ _. P) → IfOk r (λ _. Q)
-where_made P Q (Ok x) f p = f p
-where_made P Q (Err y) f p = tt
 
 -- ---- records one after another
 

@@ -28,7 +28,7 @@ pub fn run<R: Read, W: Write>(heap: Global, input: &mut R, output: &mut W) -> io
     };
     let mut bytes = vec![in heap; 0u8; 65536]?;
     let mut text = String::new(heap);
-    // kept: a range that is never gone through, since a loop with no end takes a handle that may wait, and no function here may.
+    // kept: a range too long to be gone through, since a loop with no end takes a handle that may wait, and no function here has one.
     for _ in 0..u64::MAX {
         let count = input.read(&mut bytes)?;
         if count == 0 {
