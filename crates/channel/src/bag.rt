@@ -8,7 +8,7 @@ use terms::message::{Mark, Message};
 
 // The messages that wait, by their positions.
 // kept: a type beside Line with the same calls of its ring, since whoever uses a channel picks the order by the type, and both stand under one trait by their bags.
-#[derive(Drop)]
+#[derive(Debug, Drop)]
 pub struct Bag {
     ring: Ring,
 }

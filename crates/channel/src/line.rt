@@ -7,7 +7,7 @@ use super::ring::Ring;
 use terms::message::{Mark, Message};
 
 // The messages that wait, the oldest first.
-#[derive(Drop)]
+#[derive(Debug, Drop)]
 pub struct Line {
     ring: Ring,
 }

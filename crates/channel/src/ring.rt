@@ -10,7 +10,7 @@ use terms::message::Message;
 // A ring in the places of the memory: count messages wait, the first at place first, or at 0 if first is past the places.
 // kept: a Vec with a count beside it, and no VecDeque, since a channel allocates nothing and hands its host's memory back as long as it was.
 // kept: a ghost field and no model, since the laws of both channels say of every ring that no more messages wait than there are places, and a model's value does not carry that.
-#[derive(Drop)]
+#[derive(Debug, Drop)]
 pub(crate) struct Ring {
     memory: Vec<Message>,
     first: usize,

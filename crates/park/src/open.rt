@@ -92,15 +92,11 @@ impl<C: Channel, K> Supplies<C, K> {
 fn nobody_called() -> Roster
     ensures { result.list ≡ Rattle.park.specs.Opening.all_uncalled }
 {
-    let blank = Word {
-        group: None,
-        name: None,
-    };
     let controller = Controller {
         up: true,
         stage: Stage::Uncalled,
         heard: 0,
-        words: [blank; 15],
+        words: [Word::default(); 15],
     };
     Roster {
         list: [controller; 15],
