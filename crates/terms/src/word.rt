@@ -15,7 +15,7 @@ pub struct Word {
 }
 
 // Where a controller is on its way: selector 1 to 16, round 1 to 16, phase 1 to 2.
-#[derive(Clone, Copy, Debug, Default, PartialEq, Eq)]
+#[derive(Clone, Copy, PartialEq, Eq, Debug, Default)]
 pub struct Place {
     pub selector: u8,
     pub round: u8,
