@@ -7,4 +7,4 @@ pub invariant_of-self : goal.invariant_of-self
 invariant_of-self g c =
     let a = c.self.inside in
     let h = c.self.invariant in
-    (length-set a.list a.count c.args.entry ∙ h.0, omega (arith, length-take-le a.count a.list (omega arith), ap length c.self.view_is, c.requires), blanks_behind a.list a.count c.args.entry h.2)
+    (length-set a.list a.count _ ∙ h.0, omega (arith, length-take-le a.count a.list (omega arith), ap length c.self.view_is, c.requires), blanks_behind a.list a.count _ h.2)
