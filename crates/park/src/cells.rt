@@ -21,6 +21,7 @@ pub(crate) fn say(cells: &mut Vec<Cell>, p: Name, at: PlaceWithin, word: Word) -
     write_both(&mut cells[from..from + 1024], at.index(), word)
 }
 
+// kept: beside say, and lends the pages by itself: a function that handed out the lent part would need a clause on the whole table as long as these.
 // A word comes to the kept cell of controller p at a place. Gives the word that is kept.
 // kept: beside say, and lends the pages by itself: a function that handed out the lent part would need a clause on the whole table as long as these.
 pub(crate) fn keep(cells: &mut Vec<Cell>, p: Name, at: PlaceWithin, word: Word) -> Word
