@@ -55,10 +55,7 @@ impl Roster {
         ensures { self.new.list ≡ after_echo majority self.old.list m (Stage.Asking place) }
     {
         let c = &mut self.list[m.receiver as usize - 1];
-        if place == m.place
-            && !is_majority(c.heard, majority)
-            && !has_heard(c.heard, m.sender)
-        {
+        if place == m.place && !is_majority(c.heard, majority) && !has_heard(c.heard, m.sender) {
             c.heard = heard_also(c.heard, m.sender);
             c.words[m.sender as usize - 1] = m.word;
         }

@@ -27,4 +27,4 @@ returns g c =
     let gs = lent.ensures.groups ∙ heard.groups ∙ heard_is (λ w. w.group) c.self.inside.head.n s.n _ (of s p) count few same in
     let ns = lent.ensures.names ∙ heard.names ∙ heard_is (λ w. w.name) c.self.inside.head.n s.n _ (of s p) count few same in
     c.progress_by.ensures ∙ ap (λ (l : List (Option Side)). progress_after g.C.Channel g.K.Coins s p l lent.result.names.now at) gs
-        ∙ ap (λ (l : List (Option ℕ)). progress_after g.C.Channel g.K.Coins s p (heard_groups s.n (of s p).heard (of s p).words) l at) ns
+    ∙ ap (λ (l : List (Option ℕ)). progress_after g.C.Channel g.K.Coins s p (heard_groups s.n (of s p).heard (of s p).words) l at) ns
