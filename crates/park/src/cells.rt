@@ -23,7 +23,6 @@ pub(crate) fn say(cells: &mut Vec<Cell>, p: Name, at: PlaceWithin, word: Word) -
 
 // kept: beside say, and lends the pages by itself: a function that handed out the lent part would need a clause on the whole table as long as these.
 // A word comes to the kept cell of controller p at a place. Gives the word that is kept.
-// kept: beside say, and lends the pages by itself: a function that handed out the lent part would need a clause on the whole table as long as these.
 pub(crate) fn keep(cells: &mut Vec<Cell>, p: Name, at: PlaceWithin, word: Word) -> Word
     requires name { 1024 * p.number ≤ vec_len cells.old }
     ensures items { cells.new.items ≡ keeping cells.old.items p.number at.place word }

@@ -14,7 +14,7 @@ new_desk vehicle = record { vehicle = vehicle; stage = NotGiven }
 abbrev pub at_stage : Desk → PermitStage → Desk
 at_stage desk stage = record { vehicle = desk.vehicle; stage = stage }
 
--- kept: by number, as the tags are; a file of specs cannot name the derived ==, and `take` is proved to agree with it
+-- kept: by number, as the tags are; specs cannot name the derived == of their own crate, and `take` is proved to agree with it
 abbrev pub stage_number : PermitStage → ℕ
 stage_number NotGiven = 0
 stage_number Held = 1
