@@ -4,7 +4,7 @@ ghost use Rattle.coins.specs.Draws.{listed_draw};
 use super::draws::Draws;
 use terms::word::Side;
 
-#[derive(Drop)]
+#[derive(Debug, Drop)]
 pub struct BitList {
     pub bytes: [u8; 64],
 }
@@ -15,10 +15,6 @@ impl Draws for BitList {
     // Bit d mod 8, lowest first, of byte d div 8; Zero past the last byte.
     fn draw(&self, d: u16) -> Side {
         let byte = self.bytes.get(d as usize / 8).copied().unwrap_or(0);
-        if (byte >> (d % 8)) % 2 == 1 {
-            Side::One
-        } else {
-            Side::Zero
-        }
+        Side::from((byte >> (d % 8)) % 2 == 1)
     }
 }

@@ -4,7 +4,7 @@ ghost use Rattle.coins.specs.Draws.{seeded_draw};
 use super::draws::Draws;
 use terms::word::Side;
 
-#[derive(Clone, Copy)]
+#[derive(Clone, Copy, Debug, PartialEq, Eq)]
 pub struct Seeded {
     pub seed: u64,
 }
@@ -17,10 +17,6 @@ impl Draws for Seeded {
         let z = self
             .seed
             .wrapping_add((d as u64 + 1).wrapping_mul(0x9E37_79B9_7F4A_7C15));
-        if z.count_ones() % 2 == 1 {
-            Side::One
-        } else {
-            Side::Zero
-        }
+        Side::from(z.count_ones() % 2 == 1)
     }
 }

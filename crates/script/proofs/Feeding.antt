@@ -1,6 +1,6 @@
 -- What a splitter holds after one more byte.
 use Rattle.std.proofs.Common.{Bor, Option, Some, None, MatchOption, nat_le, ◌≡◌, ℕ, ◌+◌, ◌-◌, ◌<◌, ◌≤◌, min, true, false, ◌&&◌, eqb, List, [], ◌∷◌, ◌++◌, length, take, set, refl, sym, ap, ◌∙◌, subst, inl, inr, arith}
-use Rattle.std.proofs.lemmas.List.{length_push, take_all, take-take, take-append-le, take_more_set, set_past}
+use Rattle.std.proofs.lemmas.List.{length_push, take_all, take-take, take-append-le, take_min, take_more_set, set_past}
 use Rattle.std.proofs.lemmas.Bool.{false≢true, lt-leb, cases_Bool, cases_lt, and_parts}
 use Rattle.std.specs.Slice.{IsGetRangeResult}
 use Rattle.script.proofs.Cuts.{init, init_is, cut_end, cut_on, ends_more, ends_some, some_more}
@@ -9,9 +9,6 @@ use Rattle.script.specs.Splitters.{Shows, Holds, Keeps, Fed, ends_in_cr, last_by
 use Rattle.script.specs.declared.split.Last.{Last}
 use Rattle.script.specs.declared.split.Last.TheVariants.{RecordEnd}
 use Rattle.script.specs.declared.split.Splitter.{Splitter}
-
-take_min : (k : ℕ) (l : List ℕ) → take (min k (length l)) l ≡ take k l
-take_min k l = elim (cases_lt (length l) k) [ inl h ↦ take_all _ l (omega arith) ∙ sym (take_all k l (omega arith)) | inr h ↦ ap (λ n. take n l) (omega arith) ]
 
 -- the first 80 bytes of a text without its last byte
 front : (bytes t u : List ℕ) (c n : ℕ) → u ≡ t ++ c ∷ [] → take (min 80 (min 82 (length u))) bytes ≡ take 80 u → n ≡ min 80 (length t) → take n bytes ≡ take 80 t

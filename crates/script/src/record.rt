@@ -9,7 +9,7 @@ ghost use Rattle.script.specs.Records.{record_of, of_fields, acting, fields, num
 use std::str;
 use terms::act::Act;
 
-#[derive(Drop)]
+#[derive(Clone, Copy, Debug, PartialEq, Eq)]
 pub enum Record {
     Open { n: u32, places: u32, seed: u64 },
     Act(Act),
@@ -42,8 +42,7 @@ fn read_number(field: &[u8], most: u64) -> Option<u64>
 fn read_short(field: &[u8], most: u32) -> Option<u32>
     ensures { result ≡ number most field.now }
 {
-    let value = read_number(field, u64::from(most))?;
-    Some(value as u32)
+    u32::try_from(read_number(field, u64::from(most))?).ok()
 }
 
 // The one letter that a field is.

@@ -65,8 +65,9 @@ impl Report {
         ensures { result ≡ (first_column self.now, second_column self.now, third_column self.now, fourth_column self.now) }
     {
         match *self {
-            Report::NoRecord => ('?', 15, 0, '-'),
-            Report::Refused(_, Refusal::Line) => ('?', 15, 0, '-'),
+            Report::NoRecord | Report::Refused(_, Refusal::Line) => {
+                ('?', u8::from(Refusal::Line), 0, '-')
+            }
             Report::Refused(kind, why) => (char::from(kind), u8::from(why), 0, '-'),
             Report::Opened => ('O', 0, 0, '-'),
             Report::Acted { kind, name: 0, .. } => (char::from(kind), 0, 0, '-'),

@@ -12,7 +12,7 @@ const CR: u8 = 13;
 const LF: u8 = 10;
 
 // What came last.
-#[derive(Clone, Copy, PartialEq, Eq)]
+#[derive(Clone, Copy, Debug, PartialEq, Eq)]
 enum Last {
     // The end of a record, or nothing at all.
     RecordEnd,
@@ -30,8 +30,8 @@ impl From<u8> for Last {
 
 // What has come since the last record ended, or the record that just ended.
 // kept: what it has been fed is no ghost field and no model, since both are made of the other fields, and those let go of the bytes of ended records.
-// kept: an array with a length, since the script is read in a fixed space, and a `Vec` may fail.
-#[derive(Drop)]
+// kept: an array with a length, since a `Vec` may fail, and in an `ArrayVec` the length is the buffer's, while here the bytes past the 80th are counted and not kept.
+#[derive(Debug, Drop)]
 pub struct Splitter {
     // The first bytes.
     bytes: [u8; LONGEST],

@@ -7,7 +7,7 @@ use Rattle.script.specs.Splitters.{Holds}
 use Rattle.script.specs.declared.report.Report.{Report}
 use Rattle.session.specs.declared.run.Teller.{Teller}
 use Rattle.session.specs.declared.session.Session.{Session}
-use Rattle.session.specs.Scripts.{AddsLast, AddsLines, AnswersAll, AnswersByte, AnswersLast, AnswersText, Hears, PiecesMakeTheWhole, TellsAll, TellsRest, TellsScript, Writes, lines_of}
+use Rattle.session.specs.Scripts.{AddsLast, AddsLines, AnswersAll, AnswersByte, AnswersLast, AnswersText, PiecesMakeTheWhole, TakesIn, TellsAll, TellsRest, TellsScript, Writes, lines_of}
 
 -- ---- records one after another
 
@@ -62,23 +62,23 @@ told_more past xs ys a b c u v x y = (
   writes_append x.0 y.0 a b c u v x.2 y.2,
 )
 
--- what a teller has heard and added to a text on the way from one state to another
+-- what a teller has taken in and added to a text on the way from one state to another
 pub record Goes (a : Teller) (xs t u : List ℕ) (b : Teller) : Type 0 where
-  pub hears : Hears a xs b
+  pub takes_in : TakesIn a xs b
   pub adds : AddsLines a xs t u b
 
 pub goes_nowhere : (a : Teller) (t : List ℕ) → Goes a [] t t a
 goes_nowhere a t = record {
-  hears = λ past holds. subst (Holds a.splitter) (sym (append-nil past)) holds;
+  takes_in = λ past holds. subst (Holds a.splitter) (sym (append-nil past)) holds;
   adds = λ past holds. ([], sym (append-nil t), ([], ap ended (append-nil past) ∙ sym (append-nil (ended past)), writes_none a.session a.session refl));
 }
 
 pub goes_on : (a b c : Teller) (xs ys t u v : List ℕ) → Goes a xs t u b → Goes b ys u v c → Goes a (xs ++ ys) t v c
 goes_on a b c xs ys t u v g h = record {
-  hears = λ past holds. subst (Holds c.splitter) (append_assoc past xs ys) (h.hears (past ++ xs) (g.hears past holds));
+  takes_in = λ past holds. subst (Holds c.splitter) (append_assoc past xs ys) (h.takes_in (past ++ xs) (g.takes_in past holds));
   adds = λ past holds.
       let x = g.adds past holds in
-      let y = h.adds (past ++ xs) (g.hears past holds) in
+      let y = h.adds (past ++ xs) (g.takes_in past holds) in
       (x.0 ++ y.0, y.1 ∙ ap (λ l. l ++ y.0) x.1 ∙ append_assoc t x.0 y.0, told_more past xs ys a.session b.session c.session x.0 y.0 x.2 y.2);
 }
 

@@ -62,11 +62,11 @@ pub record PiecesMakeTheWhole : Type 0 where
 abbrev pub Adds : List ℕ → List ℕ → (List ℕ → Type 0) → Type 0
 Adds before after Told = (lines : List ℕ) × (after ≡ before ++ lines) × Told lines
 
--- Below, the teller `before` has heard some bytes, whatever they are.
+-- Below, the teller `before` has taken some bytes in, whatever they are.
 
--- it has heard these bytes more
-abbrev pub Hears : Teller → List ℕ → Teller → Type 0
-Hears before bytes after = (past : List ℕ) → Holds before.splitter past → Holds after.splitter (past ++ bytes)
+-- it has taken these bytes in as well
+abbrev pub TakesIn : Teller → List ℕ → Teller → Type 0
+TakesIn before bytes after = (past : List ℕ) → Holds before.splitter past → Holds after.splitter (past ++ bytes)
 
 -- it answers what ends with one byte more
 abbrev pub AnswersByte : Teller → ℕ → Option Report → Teller → Type 0

@@ -34,6 +34,7 @@ fn name_of(act: Act, outcome: Outcome) -> u32
     match (act, outcome) {
         (Act::Call(p) | Act::Step(p) | Act::Crash(p), _) => p,
         (Act::Deliver(_), Outcome::Delivered(receiver)) => u32::from(receiver),
+        // kept: a delivery has no other outcome; the line writes 0 for nobody, and `acted_on` is defined with it.
         (Act::Deliver(_), _) => 0,
     }
 }

@@ -2,7 +2,7 @@
 ghost use Rattle.std.specs.Prelude.{◌≡◌, ℕ, List, [], ◌∷◌, ◌++◌, IfOk, string_bytes, OnErr, OnOk};
 ghost use Rattle.script.specs.Lines.{line_of};
 ghost use Rattle.script.specs.Splitters.{Shows};
-ghost use Rattle.session.specs.Scripts.{AddsLast, AddsLines, AnswersByte, AnswersLast, AnswersText, Hears, PiecesMakeTheWhole};
+ghost use Rattle.session.specs.Scripts.{AddsLast, AddsLines, AnswersByte, AnswersLast, AnswersText, PiecesMakeTheWhole, TakesIn};
 
 use super::session::Session;
 use script::report::Report;
@@ -46,7 +46,7 @@ pub fn run<R: Read, W: Write>(heap: Global, input: &mut R, output: &mut W) -> io
 impl Teller {
     // Takes these bytes in, and adds a line to the text for each record that ends with one of them.
     pub fn tell_all(&mut self, bytes: &[u8], text: &mut String) -> Result<(), AllocError>
-        ensures fed { OnOk result (Hears self.old bytes.now self.new) }
+        ensures fed { OnOk result (TakesIn self.old bytes.now self.new) }
         ensures told { OnOk result (AddsLines self.old bytes.now (string_bytes text.old) (string_bytes text.new) self.new) }
     {
         for byte in bytes {
@@ -57,7 +57,7 @@ impl Teller {
 
     // Takes the next byte in, and adds a line to the text if a record ends with it.
     fn tell_byte(&mut self, byte: u8, text: &mut String) -> Result<(), AllocError>
-        ensures fed { Hears self.old (byte ∷ []) self.new }
+        ensures fed { TakesIn self.old (byte ∷ []) self.new }
         ensures told { OnOk result (AddsLines self.old (byte ∷ []) (string_bytes text.old) (string_bytes text.new) self.new) }
     {
         match self.take_byte(byte)? {
@@ -67,6 +67,7 @@ impl Teller {
     }
 
     // At the end of a script, adds the line of a last record that no CR LF ended. What was told of its pieces and now is what is told of the script.
+    // kept: that the splitter stays stands in four contracts, since it also stays where memory runs out, of which `AddsLast` and `AnswersLast` say nothing.
     pub fn tell_rest(&mut self, text: &mut String) -> Result<(), AllocError>
         ensures told { OnOk result (AddsLast self.old (string_bytes text.old) (string_bytes text.new) self.new) }
         ensures whole { PiecesMakeTheWhole }
@@ -87,7 +88,7 @@ impl Teller {
 
     // Takes in the next byte of a script, and answers the record that ends with it, if one does.
     pub fn take_byte(&mut self, byte: u8) -> Result<Option<Report>, AllocError>
-        ensures fed { Hears self.old (byte ∷ []) self.new }
+        ensures fed { TakesIn self.old (byte ∷ []) self.new }
         ensures told { IfOk result (λ told. AnswersByte self.old byte told self.new) }
         ensures failed { OnErr result (self.new.session ≡ self.old.session) }
     {

@@ -15,7 +15,7 @@ module _ {A : Type 0} (test : A → Bool) where
   every_set (x ∷ xs) zero a e t = rw t (both x xs e).1
   every_set (x ∷ xs) (suc i) a e t = rw (both x xs e).0 (every_set xs i a (both x xs e).1 t)
 
-  pub every_getD : (xs : List A) (i : ℕ) (d : A) → every test xs ≡ true → test d ≡ true → test (get_or xs i d) ≡ true
-  every_getD [] i d e t = t
-  every_getD (x ∷ xs) zero d e t = (both x xs e).0
-  every_getD (x ∷ xs) (suc i) d e t = every_getD xs i d (both x xs e).1 t
+  pub every_get_or : (xs : List A) (i : ℕ) (d : A) → every test xs ≡ true → test d ≡ true → test (get_or xs i d) ≡ true
+  every_get_or [] i d e t = t
+  every_get_or (x ∷ xs) zero d e t = (both x xs e).0
+  every_get_or (x ∷ xs) (suc i) d e t = every_get_or xs i d (both x xs e).1 t

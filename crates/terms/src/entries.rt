@@ -5,15 +5,16 @@ use std::alloc::AllocError;
 use std::marker::Model;
 
 // The first `count` places hold the entries; every place behind them is blank.
-// kept: an array with a count in place of a Vec, since the park takes its memory from its host and has no heap; and not the library's ArrayVec, since what was heard is Copy.
+// kept: an array with a count in place of a Vec, since the park takes its memory from its host and has no heap; and not the library's ArrayVec, since the public type of what was heard is Copy, as it was, which an ArrayVec is not.
+#[derive(Debug)]
 pub struct Entries<T> {
     pub(crate) list: [Option<T>; 15],
     pub(crate) count: usize,
 }
 
+// kept: copied and cloned by hand, since a derived clone copies the two fields apart, and its proof that blanks stand behind them stayed open.
 impl<T: Copy> Copy for Entries<T> {}
 
-// kept: cloned by hand, since a derived clone copies the two fields apart, and its proof that blanks stand behind them stayed open.
 impl<T: Copy> Clone for Entries<T> {
     ghost is_clone = { λ x y. y ≡ x };
 

@@ -1,4 +1,5 @@
 // The majority, the heard set as a 16-bit number with bit p - 1 for controller p, and the words heard from it.
+// kept: the set as a plain 16-bit number, as the project wants it, with functions and no type of its own.
 ghost use Rattle.std.specs.Prelude.{◌≡◌, min, count_ones, nat_le};
 ghost use Rattle.terms.specs.Heard.{majority_of, heard_from, alone, with_heard, heard_groups, heard_names};
 
@@ -18,7 +19,7 @@ pub fn heard_alone(p: u8) -> u16
     ensures { result ≡ alone p }
 {
     let bit = p.saturating_sub(1);
-    if bit < 16 { 1 << bit } else { 0 }
+    1u16.checked_shl(u32::from(bit)).unwrap_or(0)
 }
 
 pub fn has_heard(set: u16, p: u8) -> bool

@@ -22,7 +22,7 @@ pub enum Next {
 }
 
 // What was heard in a phase: the groups and the names, blanks among them.
-#[derive(Clone, Copy)]
+#[derive(Clone, Copy, Debug)]
 pub struct Heard<'a> {
     pub groups: &'a [Option<Side>],
     pub names: &'a [Option<u8>],
@@ -51,10 +51,7 @@ impl Heard<'_> {
         if let Some(group) = reading(self.groups) {
             return Verdict::Pair((group == own, false));
         }
-        match smallest(self.groups) {
-            Some(group) => Verdict::GoOn(group),
-            None => Verdict::GoOn(if round == 1 { own } else { coin }),
-        }
+        Verdict::GoOn(smallest(self.groups).unwrap_or(if round == 1 { own } else { coin }))
     }
 }
 

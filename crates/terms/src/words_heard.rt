@@ -5,7 +5,7 @@ use super::entries::Entries;
 use super::rules::Heard;
 use super::word::Side;
 
-#[derive(Clone, Copy)]
+#[derive(Clone, Copy, Debug)]
 pub struct WordsHeard {
     pub groups: Entries<Side>,
     pub names: Entries<u8>,

@@ -3,7 +3,7 @@ use borrow.Rule.Slice.PartMut.{put_mid}
 use Rattle.terms.specs.declared.word.Cell.{Cell}
 use Rattle.terms.specs.declared.word.Cell.TheVariants.{Empty, Holds}
 use Rattle.park.specs.Cells.{cell_of, first_word, keeping}
-use Rattle.park.proofs.Parts.{set-in_part, getD_in_part, came_back}
+use Rattle.park.proofs.Parts.{set-in_part, get_or_in_part, came_back}
 use Rattle.park.proofs.cells.keep.Goals as goal
 
 pub returns : goal.returns
@@ -24,7 +24,7 @@ returns c =
     let i = c.index.result in
     let e : i ≡ cell_of at = c.index.ensures.value in
     let small = c.index.ensures.small in
-    let first : get_or (take k (drop a lent)) i Empty ≡ get_or xs (a + i) Empty = getD_in_part lent a k i Empty (omega arith) ∙ ap (λ (l : List Cell). get_or l (a + i) Empty) same in
+    let first : get_or (take k (drop a lent)) i Empty ≡ get_or xs (a + i) Empty = get_or_in_part lent a k i Empty (omega arith) ∙ ap (λ (l : List Cell). get_or l (a + i) Empty) same in
     let part = set-in_part lent c.write_kept.new.pages a k i (Holds (first_word (get_or (take k (drop a lent)) i Empty) w))
     (omega (arith, ap length same)) (omega arith) c.write_kept.ensures.cells in
     let whole : put_mid a k lent c.write_kept.new.pages ≡ keeping xs p at w = cc in

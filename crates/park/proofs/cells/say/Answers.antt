@@ -3,7 +3,7 @@ use borrow.Rule.Slice.PartMut.{put_mid}
 use Rattle.terms.specs.declared.word.Cell.{Cell}
 use Rattle.terms.specs.declared.word.Cell.TheVariants.{Empty, Holds}
 use Rattle.park.specs.Cells.{cell_of, first_word, saying}
-use Rattle.park.proofs.Parts.{sets_in_part, getD_in_part, came_back}
+use Rattle.park.proofs.Parts.{sets_in_part, get_or_in_part, came_back}
 use Rattle.park.proofs.cells.say.Goals as goal
 
 pub returns : goal.returns
@@ -24,7 +24,7 @@ returns c =
     let i = c.index.result in
     let e : i ≡ cell_of at = c.index.ensures.value in
     let small = c.index.ensures.small in
-    let first : get_or (take k (drop a lent)) i Empty ≡ get_or xs (a + i) Empty = getD_in_part lent a k i Empty (omega arith) ∙ ap (λ (l : List Cell). get_or l (a + i) Empty) same in
+    let first : get_or (take k (drop a lent)) i Empty ≡ get_or xs (a + i) Empty = get_or_in_part lent a k i Empty (omega arith) ∙ ap (λ (l : List Cell). get_or l (a + i) Empty) same in
     let part = sets_in_part lent c.write_both.new.pages a k i (512 + i) (Holds (first_word (get_or (take k (drop a lent)) i Empty) w)) (Holds w)
     (omega (arith, ap length same)) (omega arith) (omega arith) c.write_both.ensures.cells in
     let whole : put_mid a k lent c.write_both.new.pages ≡ saying xs p at w = cc in
