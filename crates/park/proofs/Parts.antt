@@ -21,8 +21,8 @@ module _ {X : Type 0} where
       let s2 : set (mid ++ post) i x ≡ set mid i x ++ post = set-append_left mid post i x (omega arith) in
       cc
 
-  pub getD_in_part : (xs : List X) (a k i : ℕ) (d : X) → i < k → get_or (take k (drop a xs)) i d ≡ get_or xs (a + i) d
-  getD_in_part xs a k i d h = get_or-take k (drop a xs) i d h ∙ get_or-drop a xs i d
+  pub get_or_in_part : (xs : List X) (a k i : ℕ) (d : X) → i < k → get_or (take k (drop a xs)) i d ≡ get_or xs (a + i) d
+  get_or_in_part xs a k i d h = get_or-take k (drop a xs) i d h ∙ get_or-drop a xs i d
 
   -- two writes
   pub sets_in_part : (xs part : List X) (a k i j : ℕ) (x y : X) → a + k ≤ length xs → i < k → j < k

@@ -51,14 +51,19 @@ module _ (p : ℕ) (at : Place) (w : Word) where
         let same : phases (q - 1 + 1) p at w ≡ phases (q - 1) p at w = phases_self (q - 1) (omega arith) in
         subst (λ (j : ℕ). SentAll sends first (phases j p at w) now) i (subst (λ (l : List Message). SentAll sends first l now) (sym same) before)
 
-    pub sent_other : (n q : ℕ) (first now then : C) → 1 ≤ p → p ≤ n → 1 ≤ q → q ≤ n → (q ≡ p → ⊥) → n + length (bag first) ≤ places first + 1
-        → SentAll sends first (phases (q - 1) p at w) now → (length (bag now) < places now → sends now (phase_to p q at w) then) → SentAll sends first (phases q p at w) then
-    sent_other n q first now then a b c d ne room before send =
+    -- where PHASE goes to the name q, a place is free for it
+    pub place_free : (n q : ℕ) (first now : C) → 1 ≤ p → p ≤ n → 1 ≤ q → q ≤ n → (q ≡ p → ⊥) → n + length (bag first) ≤ places first + 1
+        → SentAll sends first (phases (q - 1) p at w) now → length (bag now) < places now
+    place_free n q first now a b c d ne room before =
         let i : q - 1 + 1 ≡ q = omega arith in
         let other : q - 1 + 1 ≡ p → ⊥ = λ e. ne (omega arith) in
         let count = sent_count sends bag places gains (phases (q - 1) p at w) first now before in
-        let more = phases_other (q - 1) other in
-        let free : length (bag now) < places now = subst (λ (k : ℕ). length (bag now) < k) (sym count.1) (phase_fits n (q - 1) (places first) _ _ a b (omega arith) other room count.0) in
-        let sent : sends now (phase_to p (q - 1 + 1) at w) then = subst (λ (j : ℕ). sends now (phase_to p j at w) then) (sym i) (send free) in
+        subst (λ (k : ℕ). length (bag now) < k) (sym count.1) (phase_fits n (q - 1) (places first) _ _ a b (omega arith) other room count.0)
+
+    pub sent_other : (q : ℕ) (first now then : C) → 1 ≤ q → (q ≡ p → ⊥) → SentAll sends first (phases (q - 1) p at w) now → sends now (phase_to p q at w) then → SentAll sends first (phases q p at w) then
+    sent_other q first now then c ne before send =
+        let i : q - 1 + 1 ≡ q = omega arith in
+        let more = phases_other (q - 1) (λ e. ne (omega arith)) in
+        let sent : sends now (phase_to p (q - 1 + 1) at w) then = subst (λ (j : ℕ). sends now (phase_to p j at w) then) (sym i) send in
         subst (λ (j : ℕ). SentAll sends first (phases j p at w) then) i (subst (λ (l : List Message). SentAll sends first l then) (sym more)
         (sent_more sends (phases (q - 1) p at w) first now then (phase_to p (q - 1 + 1) at w) before sent))

@@ -1,7 +1,7 @@
 use Rattle.std.proofs.Common.{◌≡◌, ℕ, ◌-◌, ◌+◌, rules, sym, subst, arith}
 use Rattle.channel.specs.Sends.{SentAll}
 use Rattle.park.specs.Asks.{phases}
-use Rattle.park.proofs.Phases.{sent_self, sent_other}
+use Rattle.park.proofs.Phases.{place_free, sent_self, sent_other}
 use Rattle.park.proofs.broadcast.send_to_others.Goals as goal
 use Rattle.park.proofs.broadcast.send_to_others.Goals.{then-q-p, else-q-p}
 
@@ -17,7 +17,8 @@ loop-q-preserved g c =
     subst (λ (i : ℕ). SentAll ch.sends first (phases i p at w) c.if-q-p.channel) next
     (elim c.if-q-p.branch [
       | then-q-p b ↦ subst (λ (d : g.row.C.Denot). SentAll ch.sends first (phases q p at w) d) (sym b.channel-is)
-          (sent_other p at w ch.sends ch.bag ch.places g.met.C.Channel.gains c.args.n q first c.loop-q.channel b.send.new.self c.args.p.named.0 c.requires.name c.loop-q.auto.q c.loop-q-test.true b.if-q-p.true c.requires.free c.loop-q.invariant (λ free. (b.send.ensures.accepted free).1))
+          (sent_other p at w ch.sends ch.bag ch.places g.met.C.Channel.gains q first c.loop-q.channel b.send.new.self c.loop-q.auto.q b.if-q-p.true c.loop-q.invariant
+          (b.send.ensures.accepted (place_free p at w ch.sends ch.bag ch.places g.met.C.Channel.gains c.args.n q first c.loop-q.channel c.args.p.named.0 c.requires.name c.loop-q.auto.q c.loop-q-test.true b.if-q-p.true c.requires.free c.loop-q.invariant)).1)
       | else-q-p b ↦ subst (λ (d : g.row.C.Denot). SentAll ch.sends first (phases q p at w) d) (sym b.channel-is)
           (sent_self p at w ch.sends ch.bag ch.places g.met.C.Channel.gains q first c.loop-q.channel c.loop-q.auto.q b.if-q-p.false c.loop-q.invariant)
     ])
@@ -34,7 +35,13 @@ returns-after-q-p g c =
     subst (λ (i : ℕ). SentAll ch.sends first (phases i p at w) c.if-q-p.channel) last
     (elim c.if-q-p.branch [
       | then-q-p b ↦ subst (λ (d : g.row.C.Denot). SentAll ch.sends first (phases q p at w) d) (sym b.channel-is)
-          (sent_other p at w ch.sends ch.bag ch.places g.met.C.Channel.gains c.args.n q first c.loop-q.channel b.send.new.self c.args.p.named.0 c.requires.name c.loop-q.auto.q c.loop-q-test.true b.if-q-p.true c.requires.free c.loop-q.invariant (λ free. (b.send.ensures.accepted free).1))
+          (sent_other p at w ch.sends ch.bag ch.places g.met.C.Channel.gains q first c.loop-q.channel b.send.new.self c.loop-q.auto.q b.if-q-p.true c.loop-q.invariant
+          (b.send.ensures.accepted (place_free p at w ch.sends ch.bag ch.places g.met.C.Channel.gains c.args.n q first c.loop-q.channel c.args.p.named.0 c.requires.name c.loop-q.auto.q c.loop-q-test.true b.if-q-p.true c.requires.free c.loop-q.invariant)).1)
       | else-q-p b ↦ subst (λ (d : g.row.C.Denot). SentAll ch.sends first (phases q p at w) d) (sym b.channel-is)
           (sent_self p at w ch.sends ch.bag ch.places g.met.C.Channel.gains q first c.loop-q.channel c.loop-q.auto.q b.if-q-p.false c.loop-q.invariant)
     ])
+
+pub unwrap-requires : goal.unwrap-requires
+unwrap-requires g c =
+    let ch = g.C.Channel in
+    (c.send.ensures.accepted (place_free c.args.p.number c.args.place c.args.word ch.sends ch.bag ch.places g.met.C.Channel.gains c.args.n c.loop-q.q c.args.channel.now c.loop-q.channel c.args.p.named.0 c.requires.name c.loop-q.auto.q c.loop-q-test.true c.if-q-p.true c.requires.free c.loop-q.invariant)).0
