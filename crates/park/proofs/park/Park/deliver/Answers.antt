@@ -1,12 +1,12 @@
 use Rattle.std.proofs.Common.{rules}
-use Rattle.park.proofs.Received.{left_by}
+use Rattle.park.proofs.Received.{delivered, left_by}
 use Rattle.park.proofs.park.Park.deliver.Goals as goal
 
 pub returns-in_default : goal.returns-in_default
-returns-in_default g c = rw (← c.self.view_is) (record { got = c.fetch.result; rest = c.fetch.new.self; fetched = c.fetch.ensures; does = search rules })
+returns-in_default g c = delivered g.C.Channel c.self.view_is c.fetch.ensures (search rules)
 
 pub returns-then-not-is_well_formed : goal.returns-then-not-is_well_formed
-returns-then-not-is_well_formed g c = rw (← c.self.view_is) (record { got = c.fetch.result; rest = c.fetch.new.self; fetched = c.fetch.ensures; does = search rules })
+returns-then-not-is_well_formed g c = delivered g.C.Channel c.self.view_is c.fetch.ensures (search rules)
 
 pub accept-requires-clause-free : goal.accept-requires-clause-free
 accept-requires-clause-free g c is_phase =
@@ -15,4 +15,4 @@ accept-requires-clause-free g c is_phase =
     search rules
 
 pub returns : goal.returns
-returns g c = rw (← c.self.view_is) (record { got = c.fetch.result; rest = c.fetch.new.self; fetched = c.fetch.ensures; does = search rules })
+returns g c = delivered g.C.Channel c.self.view_is c.fetch.ensures (search rules)
