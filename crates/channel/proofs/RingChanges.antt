@@ -5,12 +5,12 @@ use Rattle.std.specs.List.{swap_remove}
 use Rattle.std.proofs.Math.Seq.{take-set-lt}
 use Rattle.std.proofs.lemmas.List.{get_or-take, get_or_default, take_more_set, take-take}
 use Rattle.terms.specs.declared.message.Message.{Message}
-use Rattle.channel.specs.MeaningLemmas.{stands_at, getD_standing}
+use Rattle.channel.specs.MeaningLemmas.{stands_at, get_or_standing}
 use Rattle.channel.specs.Memory.{places_in}
 use Rattle.channel.specs.Order.{turned, IsPlace, in_order}
 use Rattle.channel.specs.OrderLemmas.{length_turned, placed, length_placed, length_in_order}
 use Rattle.channel.specs.Positions.{StandsAt}
-use Rattle.channel.proofs.Rings.{getD_turned, set_turned, ring_rest}
+use Rattle.channel.proofs.Rings.{get_or_turned, set_turned, ring_rest}
 use Rattle.channel.specs.declared.ring.Ring.{Ring}
 
 module _ (r : Ring) (i at : ℕ) (m : Message) (w : IsPlace (places_in r.memory) r.first i at) where
@@ -23,7 +23,7 @@ module _ (r : Ring) (i at : ℕ) (m : Message) (w : IsPlace (places_in r.memory)
       let l = length_placed r in
       let n = length_in_order r in
       stands_at (in_order r) i m h
-      (get_or-take r.count (turned (placed r) r.first) i m (omega arith) ∙ getD_turned (placed r) r.first i at m (omega arith) (omega arith) in_ring
+      (get_or-take r.count (turned (placed r) r.first) i m (omega arith) ∙ get_or_turned (placed r) r.first i at m (omega arith) (omega arith) in_ring
       ∙ get_or-take 65535 (vec_items r.memory) at m (omega arith) ∙ sym read)
 
   -- a write at a place, as one at a position
@@ -62,6 +62,6 @@ pub moved_last : (xs ys zs : List Message) (i : ℕ) (m last : Message) → i < 
     → zs ≡ swap_remove xs i m
 moved_last xs ys zs i m last h s wrote cut =
     let n = length xs - 1 in
-    let is : get_or xs n m ≡ last = get_or_default xs n m last (omega arith) ∙ getD_standing xs n last (omega arith) s in
+    let is : get_or xs n m ≡ last = get_or_default xs n m last (omega arith) ∙ get_or_standing xs n last (omega arith) s in
     let l : length ys ≡ length xs = ap length wrote ∙ length-set xs i last in
     cut ∙ ap (λ (k : ℕ). take (k - 1) ys) l ∙ ap (take n) (wrote ∙ ap (set xs i) (sym is))

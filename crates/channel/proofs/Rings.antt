@@ -10,8 +10,8 @@ use Rattle.channel.specs.OrderLemmas.{length_turned}
 
 module _ {X : Type 0} where
   -- a read and a write at a place, as a read and a write in the order of the ring
-  pub getD_turned : (xs : List X) (f i at : ℕ) (d : X) → f ≤ length xs → i < length xs → IsPlace (length xs) f i at → slice_index_or (turned xs f) i d ≡ slice_index_or xs at d
-  getD_turned xs f i at d h k w = grind (arith, common_steps, get_or_append_left, get_or-append_right)
+  pub get_or_turned : (xs : List X) (f i at : ℕ) (d : X) → f ≤ length xs → i < length xs → IsPlace (length xs) f i at → slice_index_or (turned xs f) i d ≡ slice_index_or xs at d
+  get_or_turned xs f i at d h k w = grind (arith, common_steps, get_or_append_left, get_or-append_right)
 
   pub set_turned : (xs : List X) (f i at : ℕ) (x : X) → f ≤ length xs → i < length xs → IsPlace (length xs) f i at → turned (slice_set xs at x) f ≡ slice_set (turned xs f) i x
   set_turned xs f i at x h k w =
@@ -34,7 +34,7 @@ module _ {X : Type 0} where
       let right = get_or-drop 1 (take u (turned xs f)) j d in
       let more = get_or-take u (turned xs f) (1 + j) d in
       let same : (p : ℕ) → IsPlace (length xs) f (1 + j) p → IsPlace (length xs) (at + 1) j p → get_or (take (u - 1) (turned xs (at + 1))) j d ≡ get_or (drop 1 (take u (turned xs f))) j d =
-      λ p v w. grind (arith, getD_turned xs f (1 + j) p d, getD_turned xs (at + 1) j p d) in
+      λ p v w. grind (arith, get_or_turned xs f (1 + j) p d, get_or_turned xs (at + 1) j p d) in
       ⊎_elim
       (λ (b : f + (j + 1) < length xs). same (f + (j + 1)) (grind arith) (grind arith))
       (λ (b : length xs ≤ f + (j + 1)). same (f + (j + 1) - length xs) (grind arith) (grind arith))

@@ -23,9 +23,9 @@ module _ (xs : List Message) (i : ℕ) (m : Message) where
   pub has_standing : StandsAt xs i m → Has xs m
   has_standing s = rw s (has_append_right (take i xs) _ m (has_get_or (m ∷ drop (i + 1) xs) 0 m (omega arith)))
 
-  pub getD_standing : i < length xs → StandsAt xs i m → slice_index_or xs i m ≡ m
-  getD_standing h s = ap (λ (l : List Message). get_or l i m) s ∙ get_or_at (take i xs) m (drop (i + 1) xs) m i (length-take-le i xs (omega arith))
+  pub get_or_standing : i < length xs → StandsAt xs i m → slice_index_or xs i m ≡ m
+  get_or_standing h s = ap (λ (l : List Message). get_or l i m) s ∙ get_or_at (take i xs) m (drop (i + 1) xs) m i (length-take-le i xs (omega arith))
 
   -- the message at position i leaves: the last moves there, and the end is cut off
   pub one_less : i < length xs → StandsAt xs i m → SameBag xs (m ∷ swap_remove xs i m)
-  one_less h s = IsPermutation-swap_remove xs i m h (sym (getD_standing h s))
+  one_less h s = IsPermutation-swap_remove xs i m h (sym (get_or_standing h s))

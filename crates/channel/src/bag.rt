@@ -7,7 +7,7 @@ use super::ring::Ring;
 use terms::message::{Mark, Message};
 
 // The messages that wait, by their positions.
-// kept: a type beside Line with the same calls of its ring, since whoever uses a channel picks the order by the type, and both stand under one trait by their bags.
+// kept: two channels under one trait by their bags, as the project wants them; one type with its order as a parameter would have the same two impls.
 #[derive(Debug, Drop)]
 pub struct Bag {
     ring: Ring,

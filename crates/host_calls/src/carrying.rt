@@ -1,4 +1,4 @@
-// A host's own hand in the channel, and malformed messages that it puts there.
+// What a host sends and fetches itself, and malformed messages that it puts into the channel.
 use super::host::Host;
 use super::words::{message, places};
 use channel::bag::Bag;

@@ -1,3 +1,4 @@
+pub mod Pages
 pub mod Parts
 pub mod Phases
 pub mod Received

@@ -45,20 +45,27 @@ module _ (p : ℕ) (at : Place) (w : Word) where
   -- PHASE has gone to the names below q, and now to q too, if that is another's
   module _ {C : Type 0} (sends : C → Message → C → Type 0) (bag : C → List Message) (places : C → ℕ)
       (gains : (c : C) (m : Message) (d : C) → sends c m d → SameBag (m ∷ bag c) (bag d) × (places d ≡ places c)) where
-    pub sent_self : (q : ℕ) (first now : C) → 1 ≤ q → q ≡ p → SentAll sends first (phases (q - 1) p at w) now → SentAll sends first (phases q p at w) now
-    sent_self q first now a e before =
+    pub sent_self : (q : ℕ) (first now then : C) → 1 ≤ q → q ≡ p → SentAll sends first (phases (q - 1) p at w) now → then ≡ now → SentAll sends first (phases q p at w) then
+    sent_self q first now then a e before is =
         let i : q - 1 + 1 ≡ q = omega arith in
         let same : phases (q - 1 + 1) p at w ≡ phases (q - 1) p at w = phases_self (q - 1) (omega arith) in
-        subst (λ (j : ℕ). SentAll sends first (phases j p at w) now) i (subst (λ (l : List Message). SentAll sends first l now) (sym same) before)
+        let here : SentAll sends first (phases (q - 1 + 1) p at w) then = subst (λ (d : C). SentAll sends first (phases (q - 1 + 1) p at w) d) (sym is) (subst (λ (l : List Message). SentAll sends first l now) (sym same) before) in
+        subst (λ (j : ℕ). SentAll sends first (phases j p at w) then) i here
 
-    pub sent_other : (n q : ℕ) (first now then : C) → 1 ≤ p → p ≤ n → 1 ≤ q → q ≤ n → (q ≡ p → ⊥) → n + length (bag first) ≤ places first + 1
-        → SentAll sends first (phases (q - 1) p at w) now → (length (bag now) < places now → sends now (phase_to p q at w) then) → SentAll sends first (phases q p at w) then
-    sent_other n q first now then a b c d ne room before send =
-        let i : q - 1 + 1 ≡ q = omega arith in
-        let other : q - 1 + 1 ≡ p → ⊥ = λ e. ne (omega arith) in
-        let count = sent_count sends bag places gains (phases (q - 1) p at w) first now before in
-        let more = phases_other (q - 1) other in
-        let free : length (bag now) < places now = subst (λ (k : ℕ). length (bag now) < k) (sym count.1) (phase_fits n (q - 1) (places first) _ _ a b (omega arith) other room count.0) in
-        let sent : sends now (phase_to p (q - 1 + 1) at w) then = subst (λ (j : ℕ). sends now (phase_to p j at w) then) (sym i) (send free) in
-        subst (λ (j : ℕ). SentAll sends first (phases j p at w) then) i (subst (λ (l : List Message). SentAll sends first l then) (sym more)
-        (sent_more sends (phases (q - 1) p at w) first now then (phase_to p (q - 1 + 1) at w) before sent))
+    module _ (n q : ℕ) (first now : C) (named : 1 ≤ p) (few : p ≤ n) (from : 1 ≤ q) (upto : q ≤ n) (other : q ≡ p → ⊥) (room : n + length (bag first) ≤ places first + 1)
+        (before : SentAll sends first (phases (q - 1) p at w) now) where
+      -- where PHASE goes to the name q, a place is free for it
+      pub place_free : length (bag now) < places now
+      place_free =
+          let i : q - 1 + 1 ≡ q = omega arith in
+          let count = sent_count sends bag places gains (phases (q - 1) p at w) first now before in
+          subst (λ (k : ℕ). length (bag now) < k) (sym count.1) (phase_fits n (q - 1) (places first) _ _ named few (omega arith) (λ e. other (omega arith)) room count.0)
+
+      pub sent_other : (sent then : C) → (length (bag now) < places now → sends now (phase_to p q at w) sent) → then ≡ sent → SentAll sends first (phases q p at w) then
+      sent_other sent then send is =
+          let i : q - 1 + 1 ≡ q = omega arith in
+          let more = phases_other (q - 1) (λ e. other (omega arith)) in
+          let goes : sends now (phase_to p (q - 1 + 1) at w) then =
+              subst (λ (j : ℕ). sends now (phase_to p j at w) then) (sym i) (subst (λ (d : C). sends now (phase_to p q at w) d) (sym is) (send place_free)) in
+          subst (λ (j : ℕ). SentAll sends first (phases j p at w) then) i (subst (λ (l : List Message). SentAll sends first l then) (sym more)
+          (sent_more sends (phases (q - 1) p at w) first now then (phase_to p (q - 1 + 1) at w) before goes))

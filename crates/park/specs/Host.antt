@@ -1,4 +1,4 @@
--- What a host can ask of a park, and its own hand in the channel.
+-- What a host can ask of a park, and what it sends and fetches itself.
 use Rattle.std.specs.Prelude.{◌≡◌, ℕ, cond, length, None, Option, Result, IsOk, IsErr, nat_lt}
 use Rattle.channel.specs.declared.channel.Channel as channel
 use Rattle.channel.specs.declared.channel.Full.{Full}

@@ -7,5 +7,6 @@ pub mod Opening
 pub mod Permits
 pub mod Placed
 pub mod Refusals
+pub mod Sound
 pub mod States
 pub mod Stays

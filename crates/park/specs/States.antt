@@ -1,5 +1,5 @@
 -- What a park is to its contracts: its numbers, its records, its cells and the memory that they lie in, its channel and its coins.
-use Rattle.std.specs.Prelude.{ℕ, List, vec_capacity}
+use Rattle.std.specs.Prelude.{◌≡◌, ℕ, List, vec_capacity, vec_len}
 use Rattle.std.specs.Vec.{vec_ptr}
 use Rattle.std.specs.Global.{Vec}
 use Rattle.std.specs.Ptr.{Ptr}
@@ -15,6 +15,10 @@ pub record Block : Type 0 where
 
 abbrev pub block_of : Vec Cell → Block
 block_of cells = record { at = vec_ptr cells; capacity = vec_capacity cells }
+
+-- as many cells as before, in the same memory
+abbrev pub StaysInPlace : Vec Cell → Vec Cell → Type 0
+StaysInPlace before after = (vec_len after ≡ vec_len before) × (block_of after ≡ block_of before)
 
 pub record State (C K : Type 0) : Type 0 where
   pub n : ℕ

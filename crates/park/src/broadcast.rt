@@ -23,7 +23,7 @@ pub(crate) fn send_to_others<C: Channel>(channel: &mut C, n: u8, p: Name, place:
                 place,
                 word,
             };
-            let _ = channel.send(m);
+            channel.send(m).unwrap();
         }
     }
 }

@@ -1,9 +1,9 @@
 // The cells of all controllers: one controller's pages are lent as a part of the table.
-// kept: a name, a place and a word as three parameters: a struct of them would only be taken apart again, since p says the word in one function and keeps another's in the other.
+// kept: controller p and the place at are two parameters in all functions that take both: a struct of them would only be taken apart again, since p picks the pages and at the cell on each page, and one of them often goes on alone.
 ghost use Rattle.std.specs.Prelude.{◌≡◌, ℕ, ◌+◌, ◌*◌, ◌<◌, ◌≤◌, ◌++◌, length, drop, replicate, vec_len, slice_index_or, slice_set};
 ghost use Rattle.terms.specs.declared.word.Cell.TheVariants.{Empty, Holds};
 ghost use Rattle.park.specs.Cells.{first_word, kept_word, keeping, saying};
-ghost use Rattle.park.specs.States.{block_of};
+ghost use Rattle.park.specs.States.{StaysInPlace};
 
 use super::names::Name;
 use super::within::PlaceWithin;
@@ -13,8 +13,7 @@ use terms::word::{Cell, Word};
 pub(crate) fn say(cells: &mut Vec<Cell>, p: Name, at: PlaceWithin, word: Word) -> Word
     requires name { 1024 * p.number ≤ vec_len cells.old }
     ensures items { cells.new.items ≡ saying cells.old.items p.number at.place word }
-    ensures len { vec_len cells.new ≡ vec_len cells.old }
-    ensures block { block_of cells.new ≡ block_of cells.old }
+    ensures place { StaysInPlace cells.old cells.new }
     ensures kept { result ≡ kept_word cells.old.items p.number at.place word }
 {
     let from = p.index() * 1024;
@@ -26,8 +25,7 @@ pub(crate) fn say(cells: &mut Vec<Cell>, p: Name, at: PlaceWithin, word: Word) -
 pub(crate) fn keep(cells: &mut Vec<Cell>, p: Name, at: PlaceWithin, word: Word) -> Word
     requires name { 1024 * p.number ≤ vec_len cells.old }
     ensures items { cells.new.items ≡ keeping cells.old.items p.number at.place word }
-    ensures len { vec_len cells.new ≡ vec_len cells.old }
-    ensures block { block_of cells.new ≡ block_of cells.old }
+    ensures place { StaysInPlace cells.old cells.new }
     ensures kept { result ≡ kept_word cells.old.items p.number at.place word }
 {
     let from = p.index() * 1024;
@@ -68,8 +66,7 @@ fn first_of(cell: Cell, word: Word) -> Word
 pub(crate) fn empty_first(cells: &mut Vec<Cell>, all: usize)
     requires { all ≤ vec_len cells.old }
     ensures items { cells.new.items ≡ replicate all Empty ++ drop all cells.old.items }
-    ensures len { vec_len cells.new ≡ vec_len cells.old }
-    ensures block { block_of cells.new ≡ block_of cells.old }
+    ensures place { StaysInPlace cells.old cells.new }
 {
     cells[0..all].fill(Cell::Empty);
 }

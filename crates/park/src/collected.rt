@@ -2,6 +2,7 @@
 use permit::permit::HeldPermit;
 
 // The answer, and with the first collecting of a yes the permit.
+#[derive(Debug)]
 pub enum Collected {
     Yes(HeldPermit),
     No,

@@ -1,5 +1,5 @@
-// What happens to one controller's record. Each function writes one record, in place.
-// kept: each function reaches into the list by itself, since what a `&mut` into an array lends gets no proof.
+// What happens to one controller's record. Each function but `get` writes one record, in place.
+// kept: each function indexes the list by itself: whoever was lent a record could leave it asking outside the limits, which the list's invariant forbids.
 ghost use Rattle.std.specs.Prelude.{◌≡◌, ℕ, ◌-◌, ◌≤◌, true};
 ghost use Rattle.park.specs.Placed.{placed};
 ghost use Rattle.park.specs.Controllers.{record_of, with_record, taken_down, answered, asking, after_echo};

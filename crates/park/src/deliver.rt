@@ -76,6 +76,6 @@ impl<C: Channel, K: Coins> Park<C, K> {
             place: m.place,
             word: kept,
         };
-        let _ = self.channel.send(echo);
+        self.channel.send(echo).unwrap();
     }
 }

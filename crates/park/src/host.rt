@@ -1,6 +1,7 @@
-// What a host can ask of a park, and its own hand in the channel.
+// What a host can ask of a park, and what it sends and fetches itself.
 ghost use Rattle.std.specs.Prelude.{◌≡◌, ℕ, ◌<◌, ◌≤◌, length};
 ghost use Rattle.park.specs.Host.{answer_of, Posts, Fetches};
+ghost use Rattle.park.specs.Sound.{Sound};
 
 use super::controller::Stage;
 use super::park::Park;
@@ -12,6 +13,14 @@ use terms::message::{Mark, Message};
 use terms::word::Cell;
 
 impl<C: Channel, K: Coins> Park<C, K> {
+    // How many controllers the park has. Told with it: what every open park has.
+    pub fn count_controllers(&self) -> u8
+        ensures count { result ≡ self.now.n }
+        ensures sound { Sound self.now }
+    {
+        self.head.n
+    }
+
     // The answer that controller p holds, also when it has crashed since; none before, and for a name that is none of the park's.
     pub fn answer(&self, p: u32) -> Option<Answer>
         ensures { result ≡ answer_of self.now p }

@@ -40,6 +40,7 @@ pub struct Supplies<C, K> {
 }
 
 // A refused opening, with all that was handed over.
+// kept: beside permit's Returned, which has the same shape: the field says what comes back.
 #[derive(Drop)]
 pub struct NotOpened<C, K> {
     pub refusal: Refusal,

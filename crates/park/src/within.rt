@@ -8,7 +8,7 @@ use terms::answer::Progress;
 use terms::word::Place;
 
 // A place within the limits.
-#[derive(Clone, Copy)]
+#[derive(Clone, Copy, Debug)]
 pub(crate) struct PlaceWithin {
     pub(crate) place: Place,
     ghost within: { within place ≡ true },
@@ -25,7 +25,7 @@ impl PlaceWithin {
 }
 
 // The answer, or a phase that is opened at a place within the limits.
-#[derive(Clone, Copy)]
+#[derive(Clone, Copy, Debug)]
 pub(crate) struct ProgressWithin {
     pub(crate) progress: Progress,
     ghost within: { opened_within progress ≡ true },

@@ -7,6 +7,7 @@ use super::permit::{Held, HeldPermit, Loaded, LoadedPermit, Permit};
 use terms::refusal::Refusal;
 
 // A refused permit comes back with the refusal.
+#[derive(Debug)]
 pub struct Returned<P> {
     pub refusal: Refusal,
     pub permit: P,

@@ -3,7 +3,7 @@ pub use terms::act::Act;
 use terms::answer::Progress;
 
 // What an accepted act did: a call or a step opened a phase or gave the answer, a delivery reached this receiver.
-#[derive(Clone, Copy)]
+#[derive(Clone, Copy, Debug, PartialEq, Eq)]
 pub enum Outcome {
     Advanced(Progress),
     Crashed,

@@ -12,6 +12,7 @@ use promise::perform::{collect, dispatch, load};
 use terms::refusal::Refusal;
 
 // What a station's collecting comes to, where it is not refused.
+// kept: beside Collected: the permit is spent, and a type without it can be copied and told.
 #[derive(Clone, Copy, Debug, PartialEq, Eq)]
 pub enum Crossing {
     Dispatched,

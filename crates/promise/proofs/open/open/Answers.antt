@@ -1,12 +1,9 @@
-use Rattle.std.proofs.Common.{[], IfOk, Ok, Err, Result}
+use Rattle.std.proofs.Common.{[]}
+use Rattle.std.proofs.lemmas.Result.{IfOk-weaker}
 use Rattle.promise.specs.Runs.{start}
 use Rattle.promise.proofs.Kept.{every_run_keeps_the_promise}
 use Rattle.promise.proofs.Opened.{opened_fresh}
 use Rattle.promise.proofs.open.open.Goals as goal
-
-also : {X Y : Type 0} (P Q : X → Type 0) → ((x : X) → P x → Q x) → (r : Result X Y) → IfOk r P → IfOk r Q
-also P Q f (Ok x) h = f x h
-also P Q f (Err y) h = tt
 
 pub returns : goal.returns
 returns g c =
@@ -15,5 +12,5 @@ returns g c =
     record {
       opens = c.open.ensures;
       fresh = fresh;
-      promise = also _ _ (λ park F. every_run_keeps_the_promise g.C.Channel g.K.Coins ch.gains ch.gives park park [] F start) c.open.result fresh;
+      promise = IfOk-weaker c.open.result _ _ (λ park F. every_run_keeps_the_promise g.C.Channel g.K.Coins ch.gains ch.gives park park [] F start) fresh;
     }
