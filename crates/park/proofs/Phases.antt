@@ -66,6 +66,6 @@ module _ (p : ℕ) (at : Place) (w : Word) where
           let i : q - 1 + 1 ≡ q = omega arith in
           let more = phases_other (q - 1) (λ e. other (omega arith)) in
           let goes : sends now (phase_to p (q - 1 + 1) at w) then =
-              subst (λ (j : ℕ). sends now (phase_to p j at w) then) (sym i) (subst (λ (d : C). sends now (phase_to p q at w) d) (sym is) (send place_free)) in
+          subst (λ (j : ℕ). sends now (phase_to p j at w) then) (sym i) (subst (λ (d : C). sends now (phase_to p q at w) d) (sym is) (send place_free)) in
           subst (λ (j : ℕ). SentAll sends first (phases j p at w) then) i (subst (λ (l : List Message). SentAll sends first l then) (sym more)
           (sent_more sends (phases (q - 1) p at w) first now then (phase_to p (q - 1 + 1) at w) before goes))

@@ -89,6 +89,7 @@ impl Splitter {
     }
 
     // Takes in the next byte, and says whether a record has ended with it; that one can then be read.
+    // kept: a bool, and `read` for the record, since which record it is depends on whether a park is open, and that is not known here.
     pub fn feed(&mut self, byte: u8) -> bool
         ensures { Feeds self.old byte result self.new }
     {
