@@ -33,13 +33,15 @@ try_crate() {
     (cd "$work/crates/$1" && rt check) >"$work/said" 2>&1
 }
 
-# refused NAME ERROR WHAT [COUNT]: the check refuses the crate with COUNT errors (1 where none is given), and one is ERROR, in the crate itself.
+# refused NAME ERROR WHAT [SECOND]: the check refuses the crate, and its only error is ERROR, in the crate itself; where SECOND is given, that is the only other one.
 refused() {
     local status=0
     try_crate "$1" || status=$?
     [ "$status" -eq 1 ] || fail "$3: the check ended with status $status, not 1"
-    [ "$(grep -c 'error\[' "$work/said")" -eq "${4:-1}" ] || fail "$3: another number of errors than ${4:-1}"
-    grep -F "src/lib.rt:" "$work/said" | grep -qF "error$2" || fail "$3: not refused with $2"
+    [ "$(grep -c 'error\[' "$work/said")" -eq $((1 + ($# > 3))) ] || fail "$3: another number of errors than $((1 + ($# > 3)))"
+    for error in "${@:2:1}" "${@:4}"; do
+        grep -F "src/lib.rt:" "$work/said" | grep -qF "error$error" || fail "$3: not refused with $error"
+    done
     printf 'misuse: %s: refused, as it must be (%s)\n' "$3" "$2"
 }
 
@@ -96,14 +98,14 @@ pub fn copy(permit: &LoadedPermit) -> LoadedPermit {
 END
 
 refused held_forged '[private-field]: field `vehicle` of struct `Permit` is private' \
-    'making a held permit by hand' 2 <<'END'
+    'making a held permit by hand' '[private-field]: field `state` of struct `Permit` is private' <<'END'
 pub fn forge() -> HeldPermit {
     HeldPermit { vehicle: 7, state: permit::permit::Held }
 }
 END
 
 refused loaded_forged '[private-field]: field `vehicle` of struct `Permit` is private' \
-    'making a loaded permit by hand' 2 <<'END'
+    'making a loaded permit by hand' '[private-field]: field `state` of struct `Permit` is private' <<'END'
 pub fn forge() -> LoadedPermit {
     LoadedPermit { vehicle: 7, state: permit::permit::Loaded }
 }

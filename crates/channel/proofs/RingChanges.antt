@@ -1,5 +1,5 @@
 -- A read, a write and a step at an end of a ring, as of the list of its messages in their order.
-use Rattle.std.specs.Prelude.{◌≡◌, ℕ, ◌+◌, ◌-◌, ◌<◌, List, [], ◌∷◌, ◌++◌, length, get_or, take, drop, set, vec_items, slice_index_or, slice_set}
+use Rattle.std.specs.Prelude.{◌≡◌, ℕ, ◌+◌, ◌-◌, ◌<◌, ◌≤◌, List, [], ◌∷◌, ◌++◌, length, get_or, take, drop, set, vec_items, slice_index_or, slice_set}
 use Rattle.std.proofs.Common.{sym, ap, subst, ◌∙◌, arith, length-set}
 use Rattle.std.specs.List.{swap_remove}
 use Rattle.std.proofs.Math.Seq.{take-set-lt}
@@ -12,6 +12,10 @@ use Rattle.channel.specs.OrderLemmas.{length_turned, placed, length_placed, leng
 use Rattle.channel.specs.Positions.{StandsAt}
 use Rattle.channel.proofs.Rings.{get_or_turned, set_turned, ring_rest}
 use Rattle.channel.specs.declared.ring.Ring.{Ring}
+
+-- in a ring that begins at place 0, a position is its place
+pub from_0 : (r : Ring) (i : ℕ) → r.first ≡ 0 → i < places_in r.memory → IsPlace (places_in r.memory) r.first i i
+from_0 r i b h = (λ (_ : r.first + i < places_in r.memory). omega (arith, b), λ (k : places_in r.memory ≤ r.first + i). absurd (omega (arith, b, h, k)))
 
 module _ (r : Ring) (i at : ℕ) (m : Message) (w : IsPlace (places_in r.memory) r.first i at) where
   in_ring : IsPlace (length (placed r)) r.first i at

@@ -1,16 +1,17 @@
 // The bag: the pick decides which message is given, and whether it stays.
-ghost use Rattle.std.specs.Prelude.{◌≡◌, ◌<◌, [], length, MatchOption};
+ghost use Rattle.std.specs.Prelude.{◌≡◌, ◌<◌, [], length, take, vec_items, MatchOption};
 ghost use Rattle.channel.specs.Memory.{places_in};
 
 use super::channel::{Channel, Full};
 use super::ring::Ring;
 use terms::message::{Mark, Message};
 
-// The messages that wait, by their positions.
+// The messages that wait, by their positions: the first of the memory.
 // kept: two channels under one trait by their bags, as the project wants them; one type with its order as a parameter would have the same two impls.
 #[derive(Debug, Drop)]
 pub struct Bag {
     ring: Ring,
+    ghost begins: { ring.first ≡ 0 },
 }
 
 impl Bag {
@@ -29,9 +30,11 @@ impl Bag {
         }
     }
 
-    // Gives the memory back.
+    // Gives the memory back. The messages that wait are its first, by their positions.
+    #[tactic(auto, using(crate::specs::BagOrderLemmas::first_of_memory))]
     pub fn into_memory(self) -> Vec<Message>
-        ensures { result ≡ self.ring.memory }
+        ensures memory { result ≡ self.ring.memory }
+        ensures first { take (length (waiting self)) (vec_items result) ≡ waiting self }
     {
         let Bag { ring } = self;
         ring.into_memory()

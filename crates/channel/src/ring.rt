@@ -24,6 +24,7 @@ impl Ring {
     // Nothing waits in a new ring; its places are those of the memory.
     pub(crate) fn new(memory: Vec<Message>) -> Ring
         ensures empty { in_order result ≡ [] }
+        ensures begins { result.first ≡ 0 }
         ensures memory { result.memory ≡ memory }
     {
         Ring {
@@ -76,19 +77,29 @@ impl Ring {
         }
     }
 
-    // The message before which i others wait.
+    // The first message, where one waits.
+    fn first_message(&self) -> Message
+        requires { 0 < self.now.count }
+        ensures { StandsAt (in_order self.now) 0 result }
+    {
+        self.memory[self.place_of(0)]
+    }
+
+    // The message before which i others wait, in a ring that begins at place 0: it lies at place i.
     // kept: the bound on i stands in each contract that takes it, since a position is good only until the ring changes.
     pub(crate) fn message_at(&self, i: usize) -> Message
-        requires { i < length (in_order self.now) }
+        requires position { i < length (in_order self.now) }
+        requires begins { self.now.first ≡ 0 }
         ensures { StandsAt (in_order self.now) i result }
     {
-        self.memory[self.place_of(i)]
+        self.memory[i]
     }
 
     // Refused exactly when all places are taken, and then nothing changes; otherwise the message waits after all others.
     pub(crate) fn push_back(&mut self, m: Message) -> Result<(), Full>
         ensures refused { places_in self.old.memory ≤ length (in_order self.old) → IsErr result × (self.new ≡ self.old) }
         ensures accepted { length (in_order self.old) < places_in self.old.memory → IsOk result × Joins self.old m self.new }
+        ensures begins { self.new.first ≡ self.old.first }
     {
         if self.len() == self.places() {
             return Err(Full);
@@ -100,7 +111,8 @@ impl Ring {
     // The message waits after all others.
     fn put_last(&mut self, m: Message)
         requires { self.old.count < places_in self.old.memory }
-        ensures { Joins self.old m self.new }
+        ensures joins { Joins self.old m self.new }
+        ensures begins { self.new.first ≡ self.old.first }
     {
         let place = self.place_of(self.count);
         self.memory[place] = m;
@@ -116,7 +128,7 @@ impl Ring {
         if self.len() == 0 {
             return None;
         }
-        let m = self.message_at(0);
+        let m = self.first_message();
         self.drop_first();
         Some(m)
     }
@@ -130,11 +142,13 @@ impl Ring {
         self.count -= 1;
     }
 
-    // The message before which i others wait leaves: the last moves there, and the end is cut off.
+    // The message before which i others wait leaves a ring that begins at place 0: the last moves there, and the end is cut off.
     pub(crate) fn swap_remove(&mut self, i: usize) -> Message
-        requires { i < length (in_order self.old) }
+        requires position { i < length (in_order self.old) }
+        requires begins { self.old.first ≡ 0 }
         ensures message { StandsAt (in_order self.old) i result }
         ensures left { Becomes self.old (swap_remove (in_order self.old) i result) self.new }
+        ensures begins { self.new.first ≡ self.old.first }
     {
         let m = self.message_at(i);
         let last = self.message_at(self.count - 1);
@@ -143,19 +157,21 @@ impl Ring {
         m
     }
 
-    // Writes m over the message before which i others wait.
+    // Writes m over the message before which i others wait, in a ring that begins at place 0.
     fn put_at(&mut self, i: usize, m: Message)
-        requires { i < self.old.count }
-        ensures { Becomes self.old (slice_set (in_order self.old) i m) self.new }
+        requires position { i < self.old.count }
+        requires begins { self.old.first ≡ 0 }
+        ensures written { Becomes self.old (slice_set (in_order self.old) i m) self.new }
+        ensures begins { self.new.first ≡ self.old.first }
     {
-        let place = self.place_of(i);
-        self.memory[place] = m;
+        self.memory[i] = m;
     }
 
     // The last message leaves.
     fn drop_last(&mut self)
         requires { 0 < self.old.count }
-        ensures { Becomes self.old (take (length (in_order self.old) - 1) (in_order self.old)) self.new }
+        ensures left { Becomes self.old (take (length (in_order self.old) - 1) (in_order self.old)) self.new }
+        ensures begins { self.new.first ≡ self.old.first }
     {
         self.count -= 1;
     }

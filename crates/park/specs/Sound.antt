@@ -10,3 +10,7 @@ pub record Sound {C K : Type 0} (s : State C K) : Type 0 where
   pub majority : s.majority ≡ majority_of s.n
   pub placed : all_placed s.controllers ≡ true
   pub room : 1024 * s.n ≤ length s.cells
+
+-- a park is so before an act and after it
+abbrev pub StaysSound : {C K : Type 0} → State C K → State C K → Type 0
+StaysSound before after = Sound before × Sound after

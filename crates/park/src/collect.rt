@@ -2,6 +2,7 @@
 ghost use Rattle.std.specs.Prelude.{◌≡◌};
 ghost use Rattle.permit.specs.Acts.{Loads, Dispatches, HandsBack};
 ghost use Rattle.park.specs.Permits.{Collects, AtDesk};
+ghost use Rattle.park.specs.Sound.{StaysSound};
 
 use super::collected::Collected;
 use super::controller::Stage;
@@ -16,7 +17,8 @@ use terms::refusal::Refusal;
 impl<C: Channel, K: Coins> Park<C, K> {
     // Tells the answer of controller p; the first collecting of a yes gives the permit.
     pub fn collect(&mut self, p: u32) -> Result<Collected, Refusal>
-        ensures { Collects self.old p result self.new }
+        ensures collects { Collects self.old p result self.new }
+        ensures sound { StaysSound self.old self.new }
     {
         let p = self.find_up(p)?;
         let Stage::Answered(answer) = self.roster.get(p).stage else {
@@ -30,19 +32,22 @@ impl<C: Channel, K: Coins> Park<C, K> {
     }
 
     pub fn load(&mut self, permit: HeldPermit) -> Result<LoadedPermit, Returned<HeldPermit>>
-        ensures { AtDesk (λ desk. Loads desk permit) self.old result self.new }
+        ensures loads { AtDesk (λ desk. Loads desk permit) self.old result self.new }
+        ensures sound { StaysSound self.old self.new }
     {
         self.desk.load(permit)
     }
 
     pub fn dispatch(&mut self, permit: LoadedPermit) -> Result<(), Returned<LoadedPermit>>
-        ensures { AtDesk (λ desk. Dispatches desk permit) self.old result self.new }
+        ensures dispatches { AtDesk (λ desk. Dispatches desk permit) self.old result self.new }
+        ensures sound { StaysSound self.old self.new }
     {
         self.desk.dispatch(permit)
     }
 
     pub fn hand_back(&mut self, permit: HeldPermit) -> Result<(), Returned<HeldPermit>>
-        ensures { AtDesk (λ desk. HandsBack desk permit) self.old result self.new }
+        ensures hands_back { AtDesk (λ desk. HandsBack desk permit) self.old result self.new }
+        ensures sound { StaysSound self.old self.new }
     {
         self.desk.hand_back(permit)
     }

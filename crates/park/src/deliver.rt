@@ -2,6 +2,7 @@
 ghost use Rattle.std.specs.Prelude.{◌≡◌, ℕ, ◌<◌, true, length};
 ghost use Rattle.terms.specs.Places.{well_formed};
 ghost use Rattle.park.specs.Messages.{Accepts, Delivers, Receives, Takes};
+ghost use Rattle.park.specs.Sound.{StaysSound};
 
 use super::cells::keep;
 use super::controller::Stage;
@@ -16,7 +17,8 @@ use terms::refusal::Refusal;
 impl<C: Channel, K: Coins> Park<C, K> {
     // Fetches a message with this pick and hands it to its receiver, whose name is told. A receiver that is down drops it.
     pub fn deliver(&mut self, pick: u32) -> Result<u8, Refusal>
-        ensures { Delivers C.Channel self.old pick result self.new }
+        ensures delivers { Delivers C.Channel self.old pick result self.new }
+        ensures sound { StaysSound self.old self.new }
     {
         let Some((m, _)) = self.channel.fetch(pick) else {
             return Err(Refusal::Nothing);
@@ -30,7 +32,8 @@ impl<C: Channel, K: Coins> Park<C, K> {
 
     // For a host that runs a single controller: hands it a message that arrived.
     pub fn receive(&mut self, p: u32, m: Message) -> Result<(), Refusal>
-        ensures { Receives C.Channel self.old p m result self.new }
+        ensures receives { Receives C.Channel self.old p m result self.new }
+        ensures sound { StaysSound self.old self.new }
     {
         let p = self.find_up(p)?;
         if m.is_phase() && self.channel.count_free() == 0 {
@@ -47,7 +50,8 @@ impl<C: Channel, K: Coins> Park<C, K> {
     fn accept(&mut self, m: Message)
         requires formed { well_formed self.old.n m ≡ true }
         requires free { m.kind ≡ Kind.Phase → length (C.Channel.bag self.old.channel) < C.Channel.places self.old.channel }
-        ensures { Accepts C.Channel self.old m self.new }
+        ensures accepts { Accepts C.Channel self.old m self.new }
+        ensures sound { StaysSound self.old self.new }
     {
         let receiver = self.roster.get(Name { number: m.receiver });
         if !receiver.up {

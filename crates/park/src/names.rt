@@ -1,6 +1,7 @@
 // Names of controllers, and finding one by the number that a host gives.
 ghost use Rattle.std.specs.Prelude.{◌≡◌, ℕ, ◌-◌, ◌<◌, ◌≤◌, true, false, Some, None, MatchOption, MatchResult};
 ghost use Rattle.park.specs.Refusals.{name_refusal, no_such_name};
+ghost use Rattle.park.specs.Sound.{Sound};
 
 use super::park::Park;
 use channel::channel::Channel;
@@ -28,7 +29,8 @@ impl Name {
 impl<C: Channel, K: Coins> Park<C, K> {
     // The name of a controller of the park that is up, or why there is none.
     pub(crate) fn find_up(&self, p: u32) -> Result<Name, Refusal>
-        ensures { MatchResult result (λ q. (q.number ≡ p) × (q.number ≤ self.now.n) × (name_refusal self.now p ≡ None)) (λ e. name_refusal self.now p ≡ Some e) }
+        ensures found { MatchResult result (λ q. (q.number ≡ p) × (q.number ≤ self.now.n) × (name_refusal self.now p ≡ None)) (λ e. name_refusal self.now p ≡ Some e) }
+        ensures sound { Sound self.now }
     {
         let p = self.find(p).ok_or(Refusal::Name)?;
         if !self.roster.get(p).up {
@@ -39,7 +41,8 @@ impl<C: Channel, K: Coins> Park<C, K> {
 
     // The name of a controller of the park.
     pub(crate) fn find(&self, p: u32) -> Option<Name>
-        ensures { MatchOption result (no_such_name self.now p ≡ true) (λ q. (q.number ≡ p) × (q.number ≤ self.now.n) × (no_such_name self.now p ≡ false)) }
+        ensures found { MatchOption result (no_such_name self.now p ≡ true) (λ q. (q.number ≡ p) × (q.number ≤ self.now.n) × (no_such_name self.now p ≡ false)) }
+        ensures sound { Sound self.now }
     {
         if p == 0 || p > self.head.n as u32 {
             None

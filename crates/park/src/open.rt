@@ -1,6 +1,7 @@
 // Opening and closing a park.
-ghost use Rattle.std.specs.Prelude.{◌≡◌, ℕ, ◌*◌, ◌≤◌, true, Some, None, vec_len, MatchResult};
+ghost use Rattle.std.specs.Prelude.{◌≡◌, ℕ, ◌*◌, ◌≤◌, true, Some, None, vec_len, IfOk, MatchResult};
 ghost use Rattle.park.specs.Opening.{Opening, GivesBack, open_refusal};
+ghost use Rattle.park.specs.Sound.{Sound};
 
 use super::cells::empty_first;
 use super::controller::{Controller, Stage};
@@ -21,7 +22,8 @@ impl<C: Channel, K: Coins> Park<C, K> {
         vehicle: u32,
         supplies: Supplies<C, K>,
     ) -> Result<Park<C, K>, NotOpened<C, K>>
-        ensures { Opening C.Channel n vehicle supplies result }
+        ensures opens { Opening C.Channel n vehicle supplies result }
+        ensures sound { IfOk result (λ park. Sound park) }
     {
         let n = match supplies.count_for(n) {
             Ok(n) => n,
@@ -49,7 +51,8 @@ impl<C: Channel, K: Coins> Park<C, K> {
 
     // Gives back what the park holds.
     pub fn close(self) -> Supplies<C, K>
-        ensures { GivesBack self result }
+        ensures gives { GivesBack self result }
+        ensures sound { Sound self }
     {
         let Park {
             head: _,

@@ -1,6 +1,7 @@
 // Opening a phase, or giving the answer.
 ghost use Rattle.std.specs.Prelude.{◌≡◌, ℕ, ◌+◌, ◌≤◌, length};
 ghost use Rattle.park.specs.Asks.{Opens, Advances};
+ghost use Rattle.park.specs.Sound.{StaysSound};
 
 use super::broadcast::send_to_others;
 use super::cells::say;
@@ -17,7 +18,8 @@ impl<C: Channel, K: Coins> Park<C, K> {
     // Opens a phase, if enough places are free, or gives the answer.
     pub(crate) fn advance(&mut self, p: Name, next: ProgressWithin) -> Result<Progress, Refusal>
         requires name { p.number ≤ self.old.n }
-        ensures { Advances C.Channel K.Coins self.old p.number next.progress result self.new }
+        ensures advances { Advances C.Channel K.Coins self.old p.number next.progress result self.new }
+        ensures sound { StaysSound self.old self.new }
     {
         match next.progress {
             Progress::Opened(place, word) => {
@@ -35,7 +37,8 @@ impl<C: Channel, K: Coins> Park<C, K> {
     fn open_phase(&mut self, p: Name, at: PlaceWithin, word: Word)
         requires name { p.number ≤ self.old.n }
         requires free { self.old.n + length (C.Channel.bag self.old.channel) ≤ C.Channel.places self.old.channel + 1 }
-        ensures { Opens C.Channel K.Coins self.old p.number at.place word self.new }
+        ensures opens { Opens C.Channel K.Coins self.old p.number at.place word self.new }
+        ensures sound { StaysSound self.old self.new }
     {
         let kept = say(&mut self.cells, p, at, word);
         self.roster.ask(p, at, kept);

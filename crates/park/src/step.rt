@@ -2,6 +2,7 @@
 ghost use Rattle.std.specs.Prelude.{◌≡◌, ℕ, ◌≤◌, option_map};
 ghost use Rattle.park.specs.Asks.{Steps, progress_from, progress_after, goes_to, opens_selector};
 ghost use Rattle.park.specs.Controllers.{ready_at};
+ghost use Rattle.park.specs.Sound.{StaysSound};
 ghost use Rattle.park.specs.States.{of};
 ghost use Rattle.park.specs.Stays.{NextFits};
 
@@ -20,7 +21,8 @@ use terms::word::{Place, Word};
 impl<C: Channel, K: Coins> Park<C, K> {
     // Controller p goes on from the phase that it has heard a majority in.
     pub fn step(&mut self, p: u32) -> Result<Progress, Refusal>
-        ensures { Steps C.Channel K.Coins self.old p result self.new }
+        ensures steps { Steps C.Channel K.Coins self.old p result self.new }
+        ensures sound { StaysSound self.old self.new }
     {
         let p = self.find_up(p)?;
         let Some(at) = self.ready_place(p) else {

@@ -1,6 +1,7 @@
 // Opening a park: what the runs of the promise begin with.
 ghost use Rattle.std.specs.Prelude.{[], IfOk};
 ghost use Rattle.park.specs.Opening.{Opening};
+ghost use Rattle.park.specs.Sound.{Sound};
 ghost use Rattle.promise.specs.Promise.{Promise};
 ghost use Rattle.promise.specs.Runs.{Fresh};
 
@@ -15,6 +16,7 @@ pub fn open<C: Channel, K: Coins>(
     supplies: Supplies<C, K>,
 ) -> Result<Park<C, K>, NotOpened<C, K>>
     ensures opens { Opening C.Channel n vehicle supplies result }
+    ensures sound { IfOk result (λ park. Sound park) }
     ensures fresh { IfOk result (λ park. Fresh C.Channel K.Coins park) }
     ensures promise { IfOk result (λ park. Promise C.Channel K.Coins [] park) }
 {

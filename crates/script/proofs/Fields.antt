@@ -1,84 +1,162 @@
--- The fields of a record, as the library cuts them and reads their numbers.
-use Rattle.std.proofs.Common.{◌≡◌, ℕ, suc, zero, ◌^◌, ◌<◌, ◌==◌, Bool, true, false, cond, ◌&&◌, List, [], ◌∷◌, length, drop, Some, None, Ok, Err, Option, Result, option_map, slice_get, IsAscii, IsUtf8, sym, refl, ap, ◌∙◌, subst, Bor, arith}
-use denote.Param.Members.{Mut}
-use Rattle.std.proofs.lemmas.Bool.{and_parts}
+-- The fields of a record, cut at a comma, and the numbers that digits write.
+use Rattle.std.proofs.Common.{◌≡◌, ◌≢◌, ℕ, suc, zero, ◌+◌, ◌-◌, ◌*◌, ◌^◌, ◌<◌, ◌≤◌, ◌==◌, Bool, true, false, cond, ◌&&◌, nat_le, eqb, ◌⊎◌, List, [], ◌∷◌, ◌++◌, length, get_or, take, drop, Option, Some, None, sym, refl, ap, ◌∙◌, inl, inr, arith}
+use Rattle.std.proofs.lemmas.Bool.{cases_Bool, cases_lt, cond-true, cond-false, and_right, le-leb, lt-leb, eqb-true, eq-eqb, ne_eqb}
 use Rattle.std.proofs.lemmas.Bool.Decides.{nat_tests}
-use Rattle.std.proofs.lemmas.Iterator.{YieldsList}
-use Rattle.std.proofs.lemmas.Iterator.Splits.{YieldsList-from_slice_split}
-use Rattle.std.proofs.lemmas.List.Splits.{length-slice_split}
-use Rattle.std.proofs.lemmas.Str.{IsUtf8-from_ascii}
-use Rattle.std.proofs.lemmas.Str.Parse.{IsNumeralModel, numerals_by_value, tells_all_ascii_digits, parse_digits}
-use Rattle.std.specs.Char.{is_ascii_digit}
-use Rattle.std.specs.List.{list_all, slice_split, onto_first}
-use Rattle.std.specs.Fn.{CalledAt}
-use Rattle.std.specs.declared.slice.Split.{Split}
-use Rattle.std.specs.Result.{result_ok}
-use Rattle.std.specs.Slice.Iter.{split_steps, split_rest, split_done, split_callee}
+use Rattle.std.proofs.lemmas.Int.Digits.{digits_value_push}
+use Rattle.std.proofs.lemmas.List.{length_push, take_rest}
+use Rattle.std.proofs.lemmas.List.Folds.{list_all-append, list_all_at, list_all_more}
+use Rattle.std.proofs.lemmas.List.Sums.{passes_at_first}
+use Rattle.std.proofs.lemmas.Str.Parse.{IsNumeralModel, numerals_by_value, tells_all_ascii_digits, digits_value_short}
+use Rattle.std.specs.Char.{digit_value, is_ascii_digit}
+use Rattle.std.specs.List.{list_all, position_or_len}
 use Rattle.std.specs.Str.{all_ascii_digits}
-use Rattle.std.specs.Str.Parse.{ParsesUnsigned, digits_value}
-use Rattle.script.specs.Fronts.{IsFront}
-use Rattle.script.specs.Records.{fields, in_front, number}
-
--- ---- cutting a record into its fields
-
-one_more : (b : ℕ) (fs : List (List ℕ)) → 0 < length fs → cond (b == 44) ([] ∷ fs) (onto_first b fs) ≡ in_front b fs
-one_more b [] some = absurd (omega arith)
-one_more b (f ∷ fs) some = refl
-
-fields_are : (bs : List ℕ) → slice_split (λ b. b == 44) bs ≡ fields bs
-fields_are [] = refl
-fields_are (b ∷ bs) = one_more b (slice_split (λ c. c == 44) bs) (omega (arith, length-slice_split (λ c. c == 44) bs)) ∙ ap (in_front b) (fields_are bs)
-
-get_later : {A : Type 0} (xs : List A) (i : ℕ) → slice_get (drop 1 xs) i ≡ slice_get xs (suc i)
-get_later [] i = refl
-get_later (x ∷ xs) i = refl
-
--- one call of `next`, where nothing changes behind the end
-module _ {S A B : Type 0} (steps : S → Option A → S → Type 0) (v : A → B) (stays : (s t : S) → steps s None t → t ≡ s) where
-  next_is : (s t : S) (r : Option A) (ys : List B) → YieldsList steps v s ys → steps s r t → (option_map v r ≡ slice_get ys 0) × YieldsList steps v t (drop 1 ys)
-  next_is s t None [] h k = (refl, subst (λ u. YieldsList steps v u []) (sym (stays s t k)) h)
-  next_is s t (Some x) [] h k = absurd (h.runs x t k)
-  next_is s t None (y ∷ ys) h k = absurd (h.runs.0 t k)
-  next_is s t (Some x) (y ∷ ys) h k = let m = h.runs.1 x t k in (ap Some m.0, record { runs = m.1 })
-
--- five calls of `next` give the first five fields
-pub front_is : {F : Type 0} (g : Mut F (Bor ℕ × Unit {0}) Bool) (bs : List ℕ) (s0 s1 s2 s3 s4 s5 : Split ℕ F) (r0 r1 r2 r3 r4 : Option (Bor (List ℕ))) (f : F)
-    → split_steps g s0 r0 s1 → split_steps g s1 r1 s2 → split_steps g s2 r2 s3 → split_steps g s3 r3 s4 → split_steps g s4 r4 s5
-    → split_rest s0 ≡ bs → split_done s0 ≡ false → split_callee s0 ≡ f → ((x : ℕ) (b : Bool) (q : F) → CalledAt g f x b q → (q ≡ f) × (b ≡ (x == 44))) → IsFront (fields bs) (r0 ∷ r1 ∷ r2 ∷ r3 ∷ r4 ∷ [])
-front_is g bs s0 s1 s2 s3 s4 s5 r0 r1 r2 r3 r4 f k0 k1 k2 k3 k4 rest done callee tests =
-    let fs : List (List ℕ) = fields bs in
-    let one = next_is (split_steps g) (λ x. x.now) (λ s t k. k.1) in
-    let h0 = subst (YieldsList (split_steps g) (λ x. x.now) s0) (fields_are bs) (YieldsList-from_slice_split g (λ b. b == 44) bs rest done callee tests) in
-    let h1 = one s0 s1 r0 fs h0 k0 in
-    let h2 = one s1 s2 r1 (drop 1 fs) h1.1 k1 in
-    let h3 = one s2 s3 r2 (drop 1 (drop 1 fs)) h2.1 k2 in
-    let h4 = one s3 s4 r3 (drop 1 (drop 1 (drop 1 fs))) h3.1 k3 in
-    let h5 = one s4 s5 r4 (drop 1 (drop 1 (drop 1 (drop 1 fs)))) h4.1 k4 in
-    let g1 : option_map (λ x. x.now) r1 ≡ slice_get fs 1 = h2.0 ∙ simp get_later in
-    let g2 : option_map (λ x. x.now) r2 ≡ slice_get fs 2 = h3.0 ∙ simp get_later in
-    let g3 : option_map (λ x. x.now) r3 ≡ slice_get fs 3 = h4.0 ∙ simp get_later in
-    let g4 : option_map (λ x. x.now) r4 ≡ slice_get fs 4 = h5.0 ∙ simp get_later in
-    λ i. h1.0 i ∷ g1 i ∷ g2 i ∷ g3 i ∷ g4 i ∷ []
+use Rattle.std.specs.Str.Parse.{digits_value}
+use Rattle.script.specs.Records.{fields, in_front, number, is_letter, acting, opening, of_fields}
 
 -- ---- reading a number
 
 numerals : IsNumeralModel (λ ds. all_ascii_digits ds ≡ true) (digits_value 10)
 numerals = numerals_by_value _ tells_all_ascii_digits
 
-pub all_digits : (ds : List ℕ) → list_all is_ascii_digit ds ≡ all_ascii_digits ds
+all_digits : (ds : List ℕ) → list_all is_ascii_digit ds ≡ all_ascii_digits ds
 all_digits [] = refl
 all_digits (d ∷ ds) = ap (λ t. is_ascii_digit d && t) (all_digits ds)
 
-ascii : (ds : List ℕ) → all_ascii_digits ds ≡ true → IsAscii ds
-ascii [] t i = omega arith
-ascii (d ∷ ds) t zero = let low : is_ascii_digit d ≡ true = (and_parts _ _ t).0 in grind (arith, nat_tests)
-ascii (d ∷ ds) t (suc i) = ascii ds (and_parts _ _ t).1 i
+-- at most k digits write a number below 10 ^ k
+pub digits_below : (ds : List ℕ) (k : ℕ) → all_ascii_digits ds ≡ true → length ds ≤ k → digits_value 10 ds < 10 ^ k
+digits_below ds k t few = digits_value_short numerals ds k t few
 
--- digits are a text
-pub digits_are_text : (ds : List ℕ) → list_all is_ascii_digit ds ≡ true → IsUtf8 ds
-digits_are_text ds t = IsUtf8-from_ascii ds (ascii ds (sym (all_digits ds) ∙ t))
+-- a digit that is read is one, and its value is below 10
+pub digit_read : (d v : ℕ) → Some v ≡ cond (is_ascii_digit d) (Some (digit_value d)) None → (is_ascii_digit d ≡ true) × (v ≡ digit_value d) × (v < 10)
+digit_read d v e = elim (cases_Bool (is_ascii_digit d)) [ inl t ↦ let same : v ≡ digit_value d = grind arith in (t, same, grind (arith, nat_tests)) | inr t ↦ absurd (grind arith) ]
 
--- digits that are not parsed are no number
-pub not_parsed : {E : Type 0} (most : ℕ) (ds : List ℕ) (r : Result ℕ E) → most < 2 ^ 64 → list_all is_ascii_digit ds ≡ true → ParsesUnsigned 64 10 ds r → result_ok r ≡ None → number most ds ≡ None
-not_parsed most ds (Ok x) small t h e = cc
-not_parsed most ds (Err x) small t h e = let too_large = parse_digits numerals 64 ds (Err x) h (sym (all_digits ds) ∙ t) in grind (arith, nat_tests)
+-- the digits up to an index, and the one there
+pub digits_more : (ds : List ℕ) (i : ℕ) → i < length ds → all_ascii_digits (take (i + 1) ds) ≡ (all_ascii_digits (take i ds) && is_ascii_digit (get_or ds i 0))
+digits_more ds i h = sym (all_digits (take (i + 1) ds)) ∙ list_all_more is_ascii_digit ds i 0 h ∙ ap (λ t. t && is_ascii_digit (get_or ds i 0)) (all_digits (take i ds))
+
+pub no_digit_at : (ds : List ℕ) (i : ℕ) → i < length ds → is_ascii_digit (get_or ds i 0) ≡ false → all_ascii_digits ds ≡ false
+no_digit_at ds i h t = sym (all_digits ds) ∙ list_all_at is_ascii_digit ds i 0 h t
+
+only_one : (ds : List ℕ) (b : Bool) → (list_all is_ascii_digit ds && (b && true)) ≡ (all_ascii_digits ds && b)
+only_one ds true = ap (λ t. t && true) (all_digits ds)
+only_one ds false = ap (λ t. t && false) (all_digits ds)
+
+-- the number of fewer than 20 bytes and one more
+pub number_push : (most : ℕ) (ds : List ℕ) (d : ℕ) → length ds < 20
+    → number most (ds ++ d ∷ []) ≡ cond ((all_ascii_digits ds && is_ascii_digit d) && nat_le (digits_value 10 ds * 10 + digit_value d) most) (Some (digits_value 10 ds * 10 + digit_value d)) None
+number_push most ds d few =
+    let all : all_ascii_digits (ds ++ d ∷ []) ≡ (all_ascii_digits ds && is_ascii_digit d) = sym (all_digits (ds ++ d ∷ [])) ∙ list_all-append is_ascii_digit ds (d ∷ []) ∙ only_one ds (is_ascii_digit d) in
+    rw (all, digits_value_push 10 ds d, length_push ds d, le-leb 1 (length ds + 1) (omega arith), le-leb (length ds + 1) 20 (omega arith)) refl
+
+-- where they write more than the most, there is no number
+pub number_over : (most : ℕ) (ds : List ℕ) (d : ℕ) → length ds < 20 → most < digits_value 10 ds * 10 + digit_value d → number most (ds ++ d ∷ []) ≡ None
+number_over most ds d few over = number_push most ds d few ∙ cond-false _ _ _ (and_right (all_ascii_digits ds && is_ascii_digit d) _ (lt-leb (digits_value 10 ds * 10 + digit_value d) most over))
+
+-- ---- cutting bytes at their first comma
+
+-- there is a first field
+some_field : (bs : List ℕ) → (f : List ℕ) × (fs : List (List ℕ)) × (fields bs ≡ f ∷ fs)
+some_field [] = ([], [], refl)
+some_field (b ∷ bs) = more (some_field bs)
+  where
+    more : (f : List ℕ) × (fs : List (List ℕ)) × (fields bs ≡ f ∷ fs) → (f : List ℕ) × (fs : List (List ℕ)) × (fields (b ∷ bs) ≡ f ∷ fs)
+    more x = elim (cases_Bool (eqb b 44)) [ inl t ↦ ([], x.0 ∷ x.1, ap (in_front b) x.2 ∙ cond-true _ _ _ t) | inr t ↦ (b ∷ x.0, x.1, ap (in_front b) x.2 ∙ cond-false _ _ _ t) ]
+
+-- a comma ends an empty field
+comma : (b : ℕ) (bs : List ℕ) → eqb b 44 ≡ true → fields (b ∷ bs) ≡ [] ∷ fields bs
+comma b bs t = let x = some_field bs in ap (in_front b) x.2 ∙ cond-true _ _ _ t ∙ ap (λ fs. [] ∷ fs) (sym x.2)
+
+-- bytes without a comma are one field
+pub one_field : (bs : List ℕ) → length bs ≤ position_or_len (λ b. b == 44) bs → fields bs ≡ bs ∷ []
+one_field [] h = refl
+one_field (b ∷ bs) h = elim (cases_Bool (b == 44)) [ inl t ↦ absurd (omega (arith, rw t at h)) | inr t ↦ ap (in_front b) (one_field bs (omega (arith, rw t at h))) ∙ cond-false _ _ _ t ]
+
+-- the first comma ends the first field
+cut_at : (bs : List ℕ) (i : ℕ) → position_or_len (λ b. b == 44) bs ≡ i → i < length bs → fields bs ≡ take i bs ∷ fields (drop (suc i) bs)
+cut_at [] i e h = absurd (omega arith)
+cut_at (b ∷ bs) zero e h = elim (cases_Bool (b == 44)) [ inl t ↦ comma b bs t | inr t ↦ absurd (omega (arith, rw t at e)) ]
+cut_at (b ∷ bs) (suc i) e h = elim (cases_Bool (b == 44)) [ inl t ↦ absurd (omega (arith, rw t at e)) | inr t ↦ ap (in_front b) (cut_at bs i (omega (arith, rw t at e)) (omega arith)) ∙ cond-false _ _ _ t ]
+
+pub first_field : (bs : List ℕ) → position_or_len (λ b. b == 44) bs < length bs → fields bs ≡ take (position_or_len (λ b. b == 44) bs) bs ∷ fields (drop (position_or_len (λ b. b == 44) bs + 1) bs)
+first_field bs h =
+    let at : ℕ = position_or_len (λ b. b == 44) bs in
+    let e : suc at ≡ at + 1 = omega arith in cut_at bs at refl h ∙ ap (λ i. take at bs ∷ fields (drop i bs)) e
+
+-- bytes are one field, or several, and then no number
+one_or_more : (bs : List ℕ) → (fields bs ≡ bs ∷ []) ⊎ ((f g : List ℕ) × (fs : List (List ℕ)) × (fields bs ≡ f ∷ g ∷ fs) × ((most : ℕ) → number most bs ≡ None))
+one_or_more bs = elim (cases_lt (position_or_len (λ b. b == 44) bs) (length bs)) [ inl h ↦ inr (more h) | inr h ↦ inl (one_field bs h) ]
+  where
+    more : position_or_len (λ b. b == 44) bs < length bs → (f g : List ℕ) × (fs : List (List ℕ)) × (fields bs ≡ f ∷ g ∷ fs) × ((most : ℕ) → number most bs ≡ None)
+    more h =
+        let at : ℕ = position_or_len (λ b. b == 44) bs in
+        let x = some_field (drop (at + 1) bs) in
+        let is_comma : get_or bs at 0 ≡ 44 = eqb-true _ _ (passes_at_first (λ b. b == 44) bs 0 h) in
+        let none : all_ascii_digits bs ≡ false = no_digit_at bs at h (ap is_ascii_digit is_comma) in
+        (take at bs, x.0, x.1, first_field bs h ∙ ap (λ fs. take at bs ∷ fs) x.2, λ most. rw none refl)
+
+-- ---- records by their fields
+
+-- more than one number makes no act
+no_act : (letter f g : List ℕ) (fs : List (List ℕ)) → of_fields true (letter ∷ f ∷ g ∷ fs) ≡ None
+no_act letter f g [] = refl
+no_act letter f g (h ∷ []) = refl
+no_act letter f g (h ∷ i ∷ fs) = refl
+
+no_seed : (letter : List ℕ) (n places : Option ℕ) → opening letter n places None ≡ None
+no_seed letter None places = refl
+no_seed letter (Some n) None = refl
+no_seed letter (Some n) (Some places) = refl
+
+-- the one number of an act is all that stands behind its comma
+pub act_is : (letter bs : List ℕ) → of_fields true (letter ∷ fields bs) ≡ acting letter (number (2 ^ 32 - 1) bs)
+act_is letter bs = elim (one_or_more bs) [ inl e ↦ ap (λ fs. of_fields true (letter ∷ fs)) e | inr x ↦ ap (λ fs. of_fields true (letter ∷ fs)) x.3 ∙ no_act letter x.0 x.1 x.2 ∙ sym (ap (acting letter) (x.4 (2 ^ 32 - 1))) ]
+
+-- the seed of an opening is all that stands behind its third comma
+pub opening_is : (letter n places bs : List ℕ) → of_fields false (letter ∷ n ∷ places ∷ fields bs) ≡ opening letter (number (2 ^ 32 - 1) n) (number 1024 places) (number (2 ^ 64 - 1) bs)
+opening_is letter n places bs = elim (one_or_more bs) [ inl e ↦ ap (λ fs. of_fields false (letter ∷ n ∷ places ∷ fs)) e | inr x ↦ ap (λ fs. of_fields false (letter ∷ n ∷ places ∷ fs)) x.3 ∙ sym (ap (opening letter (number (2 ^ 32 - 1) n) (number 1024 places)) (x.4 (2 ^ 64 - 1)) ∙ no_seed letter _ _) ]
+
+-- a first field that is no letter
+module _ (f : List ℕ) (none : (l : ℕ) → 64 < l → is_letter l f ≡ false) where
+  no_acting : (k : Option ℕ) → acting f k ≡ None
+  no_acting None = refl
+  no_acting (Some k) = rw (none 67 (omega arith), none 83 (omega arith), none 88 (omega arith), none 68 (omega arith)) refl
+
+  no_opening : (n places seed : Option ℕ) → opening f n places seed ≡ None
+  no_opening None places seed = refl
+  no_opening (Some n) None seed = refl
+  no_opening (Some n) (Some places) None = refl
+  no_opening (Some n) (Some places) (Some seed) = cond-false _ _ _ (none 79 (omega arith))
+
+  no_letter : (opened : Bool) (fs : List (List ℕ)) → of_fields opened (f ∷ fs) ≡ None
+  no_letter opened [] = refl
+  no_letter true (k ∷ []) = no_acting _
+  no_letter false (k ∷ []) = refl
+  no_letter opened (n ∷ places ∷ []) = refl
+  no_letter true (n ∷ places ∷ seed ∷ []) = refl
+  no_letter false (n ∷ places ∷ seed ∷ []) = no_opening _ _ _
+  no_letter opened (n ∷ places ∷ seed ∷ g ∷ fs) = refl
+
+-- a byte and a comma in front
+pub behind_comma : (opened : Bool) (bs : List ℕ) → 1 < length bs → get_or bs 1 0 ≡ 44 → of_fields opened (fields bs) ≡ of_fields opened ((get_or bs 0 0 ∷ []) ∷ fields (take (length bs - 2) (drop 2 bs)))
+behind_comma opened [] some e = absurd (omega arith)
+behind_comma opened (b ∷ []) some e = absurd (omega arith)
+behind_comma opened (b ∷ c ∷ bs) some e =
+    let rest : of_fields opened (in_front b ([] ∷ fields bs)) ≡ of_fields opened ((b ∷ []) ∷ fields bs) =
+    elim (cases_Bool (b == 44)) [
+      | inl t ↦ ap (of_fields opened) (cond-true _ _ _ t) ∙ no_letter [] (λ l h. refl) opened ([] ∷ fields bs) ∙ sym (no_letter (b ∷ []) (λ l h. ne_eqb b l (omega (arith, eqb-true b 44 t))) opened (fields bs))
+      | inr t ↦ ap (of_fields opened) (cond-false _ _ _ t)
+    ] in
+    ap (λ fs. of_fields opened (in_front b fs)) (comma c bs (eq-eqb c 44 e)) ∙ rest ∙ ap (λ ds. of_fields opened ((b ∷ []) ∷ fields ds)) (sym (take_rest (b ∷ c ∷ bs) 2))
+
+-- no record without a comma as its second byte
+pub no_comma : (opened : Bool) (bs : List ℕ) → (1 < length bs → get_or bs 1 0 ≢ 44) → of_fields opened (fields bs) ≡ None
+no_comma opened [] h = refl
+no_comma opened (b ∷ []) h = elim (cases_Bool (b == 44)) [ inl t ↦ ap (of_fields opened) (cond-true _ _ _ t) ∙ no_letter [] (λ l k. refl) opened ([] ∷ []) | inr t ↦ ap (of_fields opened) (cond-false _ _ _ t) ]
+no_comma opened (b ∷ c ∷ bs) h =
+    let x = some_field bs in
+    let e : fields (c ∷ bs) ≡ (c ∷ x.0) ∷ x.1 = ap (in_front c) x.2 ∙ cond-false _ _ _ (ne_eqb c 44 (h (omega arith))) in
+    ap (λ fs. of_fields opened (in_front b fs)) e
+    ∙ elim (cases_Bool (b == 44)) [
+      | inl t ↦ ap (of_fields opened) (cond-true _ _ _ t) ∙ no_letter [] (λ l k. refl) opened ((c ∷ x.0) ∷ x.1)
+      | inr t ↦ ap (of_fields opened) (cond-false _ _ _ t) ∙ no_letter (b ∷ c ∷ x.0) (λ l k. refl) opened x.1
+    ]

@@ -1,5 +1,4 @@
 pub mod Examples
-pub mod Fronts
 pub mod Lines
 pub mod Records
 pub mod Splits

@@ -21,7 +21,7 @@ module _ {C K : Type 0} where
   back_of given (Err back) = back.supplies
 
   -- a refused opening gives back what was handed over
-  given_back : (refusal : Option Refusal) (n vehicle : ℕ) (given : Supplies C K) (back : NotOpened C K)
+  pub given_back : (refusal : Option Refusal) (n vehicle : ℕ) (given : Supplies C K) (back : NotOpened C K)
       → OpensUnless refusal n vehicle given (Err back) → back.supplies ≡ given
   given_back (Some e) n vehicle given back h = ap (back_of given) h
   given_back None n vehicle given back h = absurd h

@@ -4,10 +4,10 @@ use Rattle.std.proofs.lemmas.List.{append-nil}
 use Rattle.script.specs.Lines.{line_of}
 use Rattle.script.specs.Splits.{ended}
 use Rattle.script.specs.Splitters.{Holds}
+use Rattle.script.specs.declared.split.Splitter.{Splitter}
 use Rattle.script.specs.declared.report.Report.{Report}
-use Rattle.session.specs.declared.run.Teller.{Teller}
 use Rattle.session.specs.declared.session.Session.{Session}
-use Rattle.session.specs.Scripts.{AddsLast, AddsLines, AnswersAll, AnswersByte, AnswersLast, AnswersText, PiecesMakeTheWhole, TakesIn, TellsAll, TellsRest, TellsScript, Writes, lines_of}
+use Rattle.session.specs.Scripts.{Adds, AnswersAll, AnswersText, PiecesMakeTheWhole, Tells, TellsAll, TellsLast, TellsRest, TellsScript, Writes, lines_of}
 
 -- ---- records one after another
 
@@ -37,23 +37,23 @@ writes_one text before after report a = record { reports = report ∷ []; answer
 
 -- ---- bytes one after another
 
-pub told_none : (byte : ℕ) (before after : Teller) (text : List ℕ) → AnswersByte before byte None after → AddsLines before (byte ∷ []) text text after
-told_none byte before after text answers past holds =
-    let t = answers past holds in ([], sym (append-nil text), ([], t.0 ∙ sym (append-nil (ended past)), writes_none before.session after.session t.1))
+pub told_none : (past : List ℕ) (byte : ℕ) (before after : Session) (text : List ℕ) → Tells past byte before None after
+    → Adds text text (λ lines. TellsAll past (byte ∷ []) before lines after)
+told_none past byte before after text t = ([], sym (append-nil text), ([], t.0 ∙ sym (append-nil (ended past)), writes_none before after t.1))
 
-pub told_one : (byte : ℕ) (before after : Teller) (text longer : List ℕ) (report : Report) → AnswersByte before byte (Some report) after
-    → longer ≡ text ++ line_of report → AddsLines before (byte ∷ []) text longer after
-told_one byte before after text longer report answers e past holds =
-    let t = answers past holds in (line_of report, e, (t.0 ∷ [], t.1, writes_one t.0 before.session after.session report t.2))
+pub told_one : (past : List ℕ) (byte : ℕ) (before after : Session) (text longer : List ℕ) (report : Report) → Tells past byte before (Some report) after
+    → longer ≡ text ++ line_of report → Adds text longer (λ lines. TellsAll past (byte ∷ []) before lines after)
+told_one past byte before after text longer report t e = (line_of report, e, (t.0 ∷ [], t.1, writes_one t.0 before after report t.2))
 
-pub last_one : (before after : Teller) (text longer : List ℕ) (report : Report) → AnswersLast before (Some report) after
-    → longer ≡ text ++ line_of report → AddsLast before text longer after
-last_one before after text longer report answers e past holds =
-    let t = answers past holds in (line_of report, e, (_, t.0, writes_one _ before.session after.session report t.1))
+pub rest_one : (past : List ℕ) (before after : Session) (text longer : List ℕ) (report : Report) → TellsLast past before (Some report) after
+    → longer ≡ text ++ line_of report → Adds text longer (λ lines. TellsRest past before lines after)
+rest_one past before after text longer report t e = (line_of report, e, (_, t.0, writes_one _ before after report t.1))
 
-pub last_none : (before after : Teller) (text : List ℕ) → AnswersLast before None after → AddsLast before text text after
-last_none before after text answers past holds =
-    let t = answers past holds in ([], sym (append-nil text), ([], t.0 ∙ sym (append-nil (ended past)), writes_none before.session after.session t.1))
+pub rest_none : (past : List ℕ) (before after : Session) (text : List ℕ) → TellsLast past before None after → Adds text text (λ lines. TellsRest past before lines after)
+rest_none past before after text t = ([], sym (append-nil text), ([], t.0 ∙ sym (append-nil (ended past)), writes_none before after t.1))
+
+pub held_more : (s : Splitter) (past seen : List ℕ) (byte : ℕ) → Holds s ((past ++ seen) ++ byte ∷ []) → Holds s (past ++ (seen ++ byte ∷ []))
+held_more s past seen byte h = subst (Holds s) (append_assoc past seen (byte ∷ [])) h
 
 told_more : (past xs ys : List ℕ) (a b c : Session) (u v : List ℕ) → TellsAll past xs a u b → TellsAll (past ++ xs) ys b v c → TellsAll past (xs ++ ys) a (u ++ v) c
 told_more past xs ys a b c u v x y = (
@@ -62,25 +62,10 @@ told_more past xs ys a b c u v x y = (
   writes_append x.0 y.0 a b c u v x.2 y.2,
 )
 
--- what a teller has taken in and added to a text on the way from one state to another
-pub record Goes (a : Teller) (xs t u : List ℕ) (b : Teller) : Type 0 where
-  pub takes_in : TakesIn a xs b
-  pub adds : AddsLines a xs t u b
-
-pub goes_nowhere : (a : Teller) (t : List ℕ) → Goes a [] t t a
-goes_nowhere a t = record {
-  takes_in = λ past holds. subst (Holds a.splitter) (sym (append-nil past)) holds;
-  adds = λ past holds. ([], sym (append-nil t), ([], ap ended (append-nil past) ∙ sym (append-nil (ended past)), writes_none a.session a.session refl));
-}
-
-pub goes_on : (a b c : Teller) (xs ys t u v : List ℕ) → Goes a xs t u b → Goes b ys u v c → Goes a (xs ++ ys) t v c
-goes_on a b c xs ys t u v g h = record {
-  takes_in = λ past holds. subst (Holds c.splitter) (append_assoc past xs ys) (h.takes_in (past ++ xs) (g.takes_in past holds));
-  adds = λ past holds.
-      let x = g.adds past holds in
-      let y = h.adds (past ++ xs) (g.takes_in past holds) in
-      (x.0 ++ y.0, y.1 ∙ ap (λ l. l ++ y.0) x.1 ∙ append_assoc t x.0 y.0, told_more past xs ys a.session b.session c.session x.0 y.0 x.2 y.2);
-}
+pub added_more : (past xs ys : List ℕ) (a b c : Session) (t u v : List ℕ)
+    → Adds t u (λ lines. TellsAll past xs a lines b) → Adds u v (λ lines. TellsAll (past ++ xs) ys b lines c) → Adds t v (λ lines. TellsAll past (xs ++ ys) a lines c)
+added_more past xs ys a b c t u v x y =
+    (x.0 ++ y.0, y.1 ∙ ap (λ l. l ++ y.0) x.1 ∙ append_assoc t x.0 y.0, told_more past xs ys a b c x.0 y.0 x.2 y.2)
 
 -- ---- a whole script
 

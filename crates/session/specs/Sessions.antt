@@ -7,6 +7,7 @@ use Rattle.channel.specs.declared.line.Line.{Line}
 use Rattle.coins.specs.SeededCoins as seeded-coins
 use Rattle.coins.specs.declared.seeded.Seeded.{Seeded}
 use Rattle.park.specs.Opening.{Opening}
+use Rattle.park.specs.Sound.{Sound}
 use Rattle.park.specs.declared.park.NotOpened.{NotOpened}
 use Rattle.park.specs.declared.park.Park.{Park}
 use Rattle.terms.specs.declared.act.Act.{Act}
@@ -28,6 +29,11 @@ holds_park (Open park) = true
 
 abbrev pub is_open : Session → Bool
 is_open session = holds_park session.state
+
+-- an open park has what every open park has; before an opening there is nothing to say
+abbrev pub SoundIn : State → Type 0
+SoundIn (Before cells) = Unit {0}
+SoundIn (Open park) = Sound park
 
 -- not open, with cells for the largest park
 pub record New (session : Session) : Type 0 where

@@ -1,8 +1,8 @@
 // From a script to the lines of its output, piece by piece, in a space that does not grow with the script.
 ghost use Rattle.std.specs.Prelude.{◌≡◌, ℕ, List, [], ◌∷◌, ◌++◌, IfOk, string_bytes, OnErr, OnOk};
 ghost use Rattle.script.specs.Lines.{line_of};
-ghost use Rattle.script.specs.Splitters.{Shows};
-ghost use Rattle.session.specs.Scripts.{AddsLast, AddsLines, AnswersByte, AnswersLast, AnswersText, PiecesMakeTheWhole, TakesIn};
+ghost use Rattle.script.specs.Splitters.{Holds, Shows};
+ghost use Rattle.session.specs.Scripts.{Adds, AddsLast, AddsLines, AnswersByte, AnswersLast, AnswersText, PiecesMakeTheWhole, TakesIn, Tells, TellsAll, TellsLast, TellsRest};
 
 use super::session::Session;
 use script::report::Report;
@@ -49,41 +49,23 @@ impl Teller {
         ensures fed { OnOk result (TakesIn self.old bytes.now self.new) }
         ensures told { OnOk result (AddsLines self.old bytes.now (string_bytes text.old) (string_bytes text.new) self.new) }
     {
-        for byte in bytes {
-            self.tell_byte(*byte, text)?;
-        }
-        Ok(())
-    }
-
-    // Takes the next byte in, and adds a line to the text if a record ends with it.
-    fn tell_byte(&mut self, byte: u8, text: &mut String) -> Result<(), AllocError>
-        ensures fed { TakesIn self.old (byte ∷ []) self.new }
-        ensures told { OnOk result (AddsLines self.old (byte ∷ []) (string_bytes text.old) (string_bytes text.new) self.new) }
-    {
-        match self.take_byte(byte)? {
-            Some(report) => add_line(text, report),
-            None => Ok(()),
-        }
+        tell_all(
+            self.heap,
+            &mut self.session,
+            &mut self.splitter,
+            bytes,
+            text,
+        )
     }
 
     // At the end of a script, adds the line of a last record that no CR LF ended. What was told of its pieces and now is what is told of the script.
-    // kept: that the splitter stays stands in four contracts, since it also stays where memory runs out, of which `AddsLast` and `AnswersLast` say nothing.
+    // kept: that the splitter stays is a clause here and of `take_end`, since it also stays where memory runs out, of which `AddsLast` and `AnswersLast` say nothing.
     pub fn tell_rest(&mut self, text: &mut String) -> Result<(), AllocError>
         ensures told { OnOk result (AddsLast self.old (string_bytes text.old) (string_bytes text.new) self.new) }
         ensures whole { PiecesMakeTheWhole }
         ensures splitter { self.new.splitter ≡ self.old.splitter }
     {
-        self.tell_last(text)
-    }
-
-    fn tell_last(&mut self, text: &mut String) -> Result<(), AllocError>
-        ensures told { OnOk result (AddsLast self.old (string_bytes text.old) (string_bytes text.new) self.new) }
-        ensures splitter { self.new.splitter ≡ self.old.splitter }
-    {
-        match self.take_end()? {
-            Some(report) => add_line(text, report),
-            None => Ok(()),
-        }
+        tell_rest(self.heap, &mut self.session, &self.splitter, text)
     }
 
     // Takes in the next byte of a script, and answers the record that ends with it, if one does.
@@ -92,11 +74,7 @@ impl Teller {
         ensures told { IfOk result (λ told. AnswersByte self.old byte told self.new) }
         ensures failed { OnErr result (self.new.session ≡ self.old.session) }
     {
-        if self.splitter.feed(byte) {
-            Ok(Some(self.answer_ended()?))
-        } else {
-            Ok(None)
-        }
+        take_byte(self.heap, &mut self.session, &mut self.splitter, byte)
     }
 
     // At the end of a script, answers a last record that no CR LF ended.
@@ -105,21 +83,68 @@ impl Teller {
         ensures failed { OnErr result (self.new.session ≡ self.old.session) }
         ensures splitter { self.new.splitter ≡ self.old.splitter }
     {
-        if self.splitter.finish() {
-            Ok(Some(self.answer_ended()?))
-        } else {
-            Ok(None)
-        }
+        take_end(self.heap, &mut self.session, &self.splitter)
     }
+}
 
-    // Answers the record that has just ended.
-    fn answer_ended(&mut self) -> Result<Report, AllocError>
-        ensures told { (text : List ℕ) → Shows self.old.splitter text → IfOk result (λ report. AnswersText self.old.session text report self.new.session) }
-        ensures failed { OnErr result (self.new.session ≡ self.old.session) }
-        ensures splitter { self.new.splitter ≡ self.old.splitter }
-    {
-        let record = self.splitter.read(self.session.is_open());
-        self.session.answer(self.heap, record)
+// Takes these bytes in, and adds a line to the text for each record that ends with one of them.
+pub fn tell_all(
+    heap: Global,
+    session: &mut Session,
+    splitter: &mut Splitter,
+    bytes: &[u8],
+    text: &mut String,
+) -> Result<(), AllocError>
+    ensures fed { (past : List ℕ) → Holds splitter.old past → OnOk result (Holds splitter.new (past ++ bytes.now)) }
+    ensures told { (past : List ℕ) → Holds splitter.old past → OnOk result (Adds (string_bytes text.old) (string_bytes text.new) (λ lines. TellsAll past bytes.now session.old lines session.new)) }
+{
+    for byte in bytes {
+        tell_byte(heap, session, splitter, *byte, text)?;
+    }
+    Ok(())
+}
+
+// Takes the next byte in, and adds a line to the text if a record ends with it.
+fn tell_byte(
+    heap: Global,
+    session: &mut Session,
+    splitter: &mut Splitter,
+    byte: u8,
+    text: &mut String,
+) -> Result<(), AllocError>
+    ensures fed { (past : List ℕ) → Holds splitter.old past → Holds splitter.new (past ++ byte ∷ []) }
+    ensures told { (past : List ℕ) → Holds splitter.old past → OnOk result (Adds (string_bytes text.old) (string_bytes text.new) (λ lines. TellsAll past (byte ∷ []) session.old lines session.new)) }
+{
+    match take_byte(heap, session, splitter, byte)? {
+        Some(report) => add_line(text, report),
+        None => Ok(()),
+    }
+}
+
+// At the end of a script, adds the line of a last record that no CR LF ended. What was told of its pieces and now is what is told of the script.
+pub fn tell_rest(
+    heap: Global,
+    session: &mut Session,
+    splitter: &Splitter,
+    text: &mut String,
+) -> Result<(), AllocError>
+    ensures told { (past : List ℕ) → Holds splitter.now past → OnOk result (Adds (string_bytes text.old) (string_bytes text.new) (λ lines. TellsRest past session.old lines session.new)) }
+    ensures whole { PiecesMakeTheWhole }
+{
+    tell_last(heap, session, splitter, text)
+}
+
+fn tell_last(
+    heap: Global,
+    session: &mut Session,
+    splitter: &Splitter,
+    text: &mut String,
+) -> Result<(), AllocError>
+    ensures { (past : List ℕ) → Holds splitter.now past → OnOk result (Adds (string_bytes text.old) (string_bytes text.new) (λ lines. TellsRest past session.old lines session.new)) }
+{
+    match take_end(heap, session, splitter)? {
+        Some(report) => add_line(text, report),
+        None => Ok(()),
     }
 }
 
@@ -128,4 +153,51 @@ fn add_line(text: &mut String, report: Report) -> Result<(), AllocError>
     ensures { OnOk result (string_bytes text.new ≡ string_bytes text.old ++ line_of report) }
 {
     write!(text, "{report}")
+}
+
+// Takes in the next byte of a script, and answers the record that ends with it, if one does.
+pub fn take_byte(
+    heap: Global,
+    session: &mut Session,
+    splitter: &mut Splitter,
+    byte: u8,
+) -> Result<Option<Report>, AllocError>
+    ensures fed { (past : List ℕ) → Holds splitter.old past → Holds splitter.new (past ++ byte ∷ []) }
+    ensures told { (past : List ℕ) → Holds splitter.old past → IfOk result (λ told. Tells past byte session.old told session.new) }
+    ensures failed { OnErr result (session.new ≡ session.old) }
+{
+    if splitter.feed(byte) {
+        Ok(Some(answer_ended(heap, session, splitter)?))
+    } else {
+        Ok(None)
+    }
+}
+
+// At the end of a script, answers a last record that no CR LF ended.
+pub fn take_end(
+    heap: Global,
+    session: &mut Session,
+    splitter: &Splitter,
+) -> Result<Option<Report>, AllocError>
+    ensures told { (past : List ℕ) → Holds splitter.now past → IfOk result (λ told. TellsLast past session.old told session.new) }
+    ensures failed { OnErr result (session.new ≡ session.old) }
+{
+    if splitter.finish() {
+        Ok(Some(answer_ended(heap, session, splitter)?))
+    } else {
+        Ok(None)
+    }
+}
+
+// Answers the record that has just ended.
+fn answer_ended(
+    heap: Global,
+    session: &mut Session,
+    splitter: &Splitter,
+) -> Result<Report, AllocError>
+    ensures told { (text : List ℕ) → Shows splitter.now text → IfOk result (λ report. AnswersText session.old text report session.new) }
+    ensures failed { OnErr result (session.new ≡ session.old) }
+{
+    let record = splitter.read(session.is_open());
+    session.answer(heap, record)
 }

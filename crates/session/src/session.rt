@@ -1,6 +1,6 @@
 // One session: the cells for a park until one is opened, and then the park.
 ghost use Rattle.std.specs.Prelude.{◌≡◌, IfOk, MatchResult};
-ghost use Rattle.session.specs.Sessions.{New, is_open, Answers, OpensOnce, TakesUp, EmptyLine, OpeningFor0, Acts};
+ghost use Rattle.session.specs.Sessions.{New, SoundIn, is_open, Answers, OpensOnce, TakesUp, EmptyLine, OpeningFor0, Acts};
 
 use super::act::act_on;
 use channel::line::Line;
@@ -22,6 +22,18 @@ enum State {
     Open(Park<Line, Seeded>),
 }
 
+impl State {
+    // Does nothing, and tells what every open park has.
+    // kept: who borrows a session learns this from no type and can't call its park, so the session calls it for them.
+    fn show_sound(&self)
+        ensures { SoundIn self.now }
+    {
+        if let State::Open(park) = self {
+            let _ = park.count_controllers();
+        }
+    }
+}
+
 #[derive(Drop)]
 pub struct Session {
     state: State,
@@ -38,21 +50,27 @@ impl Session {
         })
     }
 
+    // Whether a park is open. Told with it: what every open park has.
     pub fn is_open(&self) -> bool
-        ensures { result ≡ is_open self.now }
+        ensures told { result ≡ is_open self.now }
+        ensures sound { SoundIn self.now.state }
     {
+        self.state.show_sound();
         matches!(self.state, State::Open(_))
     }
 
     // Does what a record asks, and reports it. Without memory for a channel nothing changes.
     pub fn answer(&mut self, heap: Global, asked: Option<Record>) -> Result<Report, AllocError>
-        ensures { MatchResult result (λ report. Answers self.old asked report self.new) (λ _. self.new ≡ self.old) }
+        ensures answered { MatchResult result (λ report. Answers self.old asked report self.new) (λ _. self.new ≡ self.old) }
+        ensures sound { SoundIn self.new.state }
     {
-        match asked {
+        let answered = match asked {
             None => Ok(Report::NoRecord),
             Some(Record::Open { n, places, seed }) => self.open(heap, n, places, seed),
             Some(Record::Act(act)) => Ok(self.act(act)),
-        }
+        };
+        self.state.show_sound();
+        answered
     }
 
     // Opens the park, once. A refused opening may be tried again.
@@ -64,9 +82,7 @@ impl Session {
             State::Before(cells) => {
                 let line = new_line(heap, places)?;
                 let cells = mem::replace(cells, Vec::new(heap));
-                let (state, report) = take_up(open_park(n, seed, cells, line));
-                self.state = state;
-                Ok(report)
+                Ok(take_up(&mut self.state, open_park(n, seed, cells, line)))
             }
         }
     }
@@ -82,18 +98,22 @@ impl Session {
 }
 
 // Keeps the park that an opening gave, or takes back the cells of a refused one.
-fn take_up(opened: Result<Park<Line, Seeded>, NotOpened<Line, Seeded>>) -> (State, Report)
-    ensures { TakesUp opened result.1 result.0 }
+fn take_up(state: &mut State, opened: Result<Park<Line, Seeded>, NotOpened<Line, Seeded>>) -> Report
+    ensures { TakesUp opened result state.new }
 {
     match opened {
-        Ok(park) => (State::Open(park), Report::Opened),
+        Ok(park) => {
+            *state = State::Open(park);
+            Report::Opened
+        }
         Err(NotOpened { refusal, supplies }) => {
             let Supplies {
                 cells,
                 channel: _,
                 coins: _,
             } = supplies;
-            (State::Before(cells), Report::Refused(Kind::Open, refusal))
+            *state = State::Before(cells);
+            Report::Refused(Kind::Open, refusal)
         }
     }
 }

@@ -28,6 +28,10 @@ module _ {A : Type 0} (entry : Word → A) (heard : ℕ) (words : List Word) (i 
       let b : eqb (heard / 2 ^ i % 2) 1 ≡ false = ne_eqb (heard / 2 ^ i % 2) 1 t in
       record { few = omega (arith, ap length m, h.few); are = m ∙ rw add-one (rw b h.are) }
 
+-- two lists of one length are so with one entry more in each
+pub pushed_alike : {A B : Type 0} (xs : List A) (ys : List B) (more : List A) (many : List B) (x : A) (y : B) → length ys ≡ length xs → more ≡ xs ++ x ∷ [] → many ≡ ys ++ y ∷ [] → length many ≡ length more
+pushed_alike xs ys more many x y h e k = omega (arith, h, ap length e, ap length k, length-append xs (x ∷ []), length-append ys (y ∷ []))
+
 -- one entry more, and behind it only blanks still
 pub blanks_behind : {A : Type 0} (found : List (Option A)) (n : ℕ) (x : Option A) → drop n found ≡ replicate (15 - n) None → drop (n + 1) (set found n x) ≡ replicate (15 - (n + 1)) None
 blanks_behind found n x e =

@@ -1,5 +1,5 @@
 // The entries of one kind, groups or names, that words have: at most 15, as there are at most 15 controllers.
-ghost use Rattle.std.specs.Prelude.{◌≡◌, ◌<◌, [], ◌++◌, ◌∷◌, length, ⊤};
+ghost use Rattle.std.specs.Prelude.{◌≡◌, ℕ, ◌<◌, ◌≤◌, [], ◌++◌, ◌∷◌, length, ⊤};
 
 use std::alloc::AllocError;
 use std::marker::Model;
@@ -60,7 +60,8 @@ impl<T: Copy> Entries<T> {
     }
 
     pub fn as_slice(&self) -> &[Option<T>]
-        ensures { result.now ≡ self.now }
+        ensures entries { result.now ≡ self.now }
+        ensures few { length result.now ≤ 15 }
     {
         &self.list[..self.count]
     }

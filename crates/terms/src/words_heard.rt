@@ -1,14 +1,17 @@
 // The groups and the names heard, each by rising name of those who told them.
-ghost use Rattle.std.specs.Prelude.{◌≡◌};
+ghost use Rattle.std.specs.Prelude.{◌≡◌, ℕ, ◌≤◌, length};
 
 use super::entries::Entries;
 use super::rules::Heard;
 use super::word::Side;
 
+// As many names as groups, and at most 15 of each.
 #[derive(Clone, Copy, Debug)]
 pub struct WordsHeard {
     pub groups: Entries<Side>,
     pub names: Entries<u8>,
+    ghost alike: { length names ≡ length groups },
+    ghost few: { length groups ≤ 15 },
 }
 
 impl WordsHeard {

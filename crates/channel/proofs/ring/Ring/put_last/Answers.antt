@@ -8,4 +8,4 @@ returns c =
     let s = c.args.self.now in
     let p = c.place_of-place.ensures in
     let at = c.place_of-place.result in
-    (one_behind s at c.args.m p.place c.requires p.within, (refl, drop-set-lt 65535 s.memory.items at c.args.m (omega arith)))
+    record { joins = (one_behind s at c.args.m p.place c.requires p.within, (refl, drop-set-lt 65535 s.memory.items at c.args.m (omega arith))); begins = refl }
