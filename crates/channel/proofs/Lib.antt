@@ -1,3 +1,4 @@
+pub mod Bags
 pub mod Counts
 pub mod RingChanges
 pub mod Rings

@@ -18,7 +18,7 @@ use Rattle.script.specs.Records.{fields, in_front, number, is_letter, acting, op
 numerals : IsNumeralModel (λ ds. all_ascii_digits ds ≡ true) (digits_value 10)
 numerals = numerals_by_value _ tells_all_ascii_digits
 
-all_digits : (ds : List ℕ) → list_all is_ascii_digit ds ≡ all_ascii_digits ds
+pub all_digits : (ds : List ℕ) → list_all is_ascii_digit ds ≡ all_ascii_digits ds
 all_digits [] = refl
 all_digits (d ∷ ds) = ap (λ t. is_ascii_digit d && t) (all_digits ds)
 
@@ -55,7 +55,7 @@ number_over most ds d few over = number_push most ds d few ∙ cond-false _ _ _ 
 -- ---- cutting bytes at their first comma
 
 -- there is a first field
-some_field : (bs : List ℕ) → (f : List ℕ) × (fs : List (List ℕ)) × (fields bs ≡ f ∷ fs)
+pub some_field : (bs : List ℕ) → (f : List ℕ) × (fs : List (List ℕ)) × (fields bs ≡ f ∷ fs)
 some_field [] = ([], [], refl)
 some_field (b ∷ bs) = more (some_field bs)
   where

@@ -110,7 +110,7 @@ fn read_behind(letter: char, numbers: &[u8], opened: bool) -> Option<Record>
     }
 }
 
-// The record of any number of bytes, which begins with a letter and a comma.
+// The record of any number of bytes; without a letter and a comma in front there is none.
 #[tactic(auto, using(crate::proofs::Fields::behind_comma, crate::proofs::Fields::no_comma))]
 fn read_fields(bytes: &[u8], opened: bool) -> Option<Record>
     ensures { result ≡ of_fields opened (fields bytes.now) }

@@ -1,5 +1,6 @@
 // What a record asks of an open park, and the report of it.
 ghost use Rattle.std.specs.Prelude.{◌≡◌};
+ghost use Rattle.park.specs.Sound.{StaysSound};
 ghost use Rattle.session.specs.Reports.{Reports, acted_on};
 
 use channel::channel::Channel;
@@ -12,7 +13,8 @@ use terms::act::Act;
 
 // Performs one act and reports it: the controller acted on with its answer after the act, or the refusal.
 pub fn act_on<C: Channel, K: Coins>(park: &mut Park<C, K>, act: Act) -> Report
-    ensures { Reports C.Channel K.Coins park.old act result park.new }
+    ensures reports { Reports C.Channel K.Coins park.old act result park.new }
+    ensures sound { StaysSound park.old park.new }
 {
     match perform(park, act) {
         Err(refusal) => Report::Refused(Kind::from(act), refusal),
